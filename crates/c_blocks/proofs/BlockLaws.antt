@@ -1,7 +1,7 @@
 -- Laws of the blocks: what is read back of what was written, and that a block written over with its own numbers stays.
 use Rattle.numbers.proofs.Kit.{◌≡◌, refl, sym, ap, ap₂, ◌∙◌, ◌⊎◌, inl, inr, Bool, true, false, cond, List, [], ◌∷◌, ℕ, zero, suc, ◌+◌, ◌-◌, ◌*◌, ◌/◌, ◌%◌}
 use Rattle.numbers.proofs.Kit.{◌^◌, ◌≤◌, ◌<◌, div-add-mod', zero-add, mod-eq_of_lt, eq-or-lt_of_le, le_of_suc-le-suc, not-suc-le-zero, arith, length, get_or}
-use Rattle.numbers.proofs.Kit.{length-append, List·getD-append, List·getD-eq-default, get_or_at}
+use Rattle.numbers.proofs.Kit.{length-append, List·getD-append, List·getD-eq-default, get_or_at, Err}
 use Rattle.numbers.specs.Blocks.{Choice}
 use Rattle.numbers.specs.Upto.{upto}
 use Rattle.numbers.specs.Tile.{get_le, put_le, put_row, In}
@@ -11,8 +11,8 @@ use Rattle.numbers.proofs.TileLaws.{le-cong, length-put_row, put_row-out}
 use Rattle.numbers.proofs.WordLaws.{le-put_row, put_row-same}
 use Rattle.machine.specs.declared.Machine.{Machine}
 use Rattle.machine.specs.declared.Reply.{Reply}
-use Rattle.machine.specs.declared.Answer.TheVariants.{Done, BadArguments}
-use Rattle.machine.specs.Answers.{reply, done, verdict, is_done}
+use Rattle.machine.specs.declared.Refusal.TheVariants.{BadArguments}
+use Rattle.machine.specs.Answers.{reply, done, verdict, is_done, Done}
 use Rattle.machine.specs.Geometry.{Range, range, Parameters, parameters, Bench}
 use Rattle.machine.specs.Starting.{ranges}
 use Rattle.machine.proofs.StartLaws.{ranges-count}
@@ -261,7 +261,7 @@ module _ (grant : Choice) (word : ℕ) (xs : List ℕ) (B : Bench) where
   unfolding step_with
   step-with-kept W = go (vectors_fit W)
     where
-      go : (t : Bool) → SameMachine (cond t (beside (vectors_in W M (decode word) xs B) (outcome_in W M (decode word) xs B)) (beside W.file (refused_in W M (decode word) xs B BadArguments))).bench.machine B.machine
+      go : (t : Bool) → SameMachine (cond t (beside (vectors_in W M (decode word) xs B) (outcome_in W M (decode word) xs B)) (beside W.file (refused_in W M (decode word) xs B (Err BadArguments)))).bench.machine B.machine
       go true = outcome-kept W
       go false = record { rlen = refl; mlen = refl; rule = refl; elen = refl }
 

@@ -11,7 +11,7 @@ ghost use Rattle.unit_ranges.specs.Ranges.{put_range, put_seals};
 ghost use Rattle.c_blocks.specs.Blocks.{machine_bytes, machine_of, put_machine, SameMachine, packed};
 
 use machine::{Answer, Machine};
-use unit_element::{read8, write8};
+use unit_element::Element;
 use unit_ranges::{clear_slots, put_range};
 
 // The bytes of the machine's block.
@@ -23,14 +23,14 @@ pub fn machine_of(block: &[u8]) -> Machine
     ensures { result ≡ machine_of block.now }
 {
     Machine {
-        rlen: read8(block, 0),
-        mlen: read8(block, 8),
-        mtype: read8(block, 16),
-        tile_m: read8(block, 24),
-        tile_k: read8(block, 32),
-        tile_n: read8(block, 40),
-        rule: read8(block, 64),
-        elen: read8(block, 72),
+        rlen: u64::read(block, 0),
+        mlen: u64::read(block, 8),
+        mtype: u64::read(block, 16),
+        tile_m: u64::read(block, 24),
+        tile_k: u64::read(block, 32),
+        tile_n: u64::read(block, 40),
+        rule: u64::read(block, 64),
+        elen: u64::read(block, 72),
     }
 }
 
@@ -39,9 +39,9 @@ fn put_lengths(block: &mut [u8], m: Machine)
     requires { length block.old ≡ machine_bytes }
     ensures { block.new ≡ put_le 16 8 m.mtype (put_le 8 8 m.mlen (put_le 0 8 m.rlen block.old)) }
 {
-    write8(block, 0, m.rlen);
-    write8(block, 8, m.mlen);
-    write8(block, 16, m.mtype);
+    u64::write(block, 0, m.rlen);
+    u64::write(block, 8, m.mlen);
+    u64::write(block, 16, m.mtype);
 }
 
 // The machine's numbers into their block.
@@ -50,11 +50,11 @@ pub fn put_machine(block: &mut [u8], m: Machine)
     ensures { block.new ≡ put_machine m block.old }
 {
     put_lengths(block, m);
-    write8(block, 24, m.tile_m);
-    write8(block, 32, m.tile_k);
-    write8(block, 40, m.tile_n);
-    write8(block, 64, m.rule);
-    write8(block, 72, m.elen);
+    u64::write(block, 24, m.tile_m);
+    u64::write(block, 32, m.tile_k);
+    u64::write(block, 40, m.tile_n);
+    u64::write(block, 64, m.rule);
+    u64::write(block, 72, m.elen);
 }
 
 // The numbers of a machine that steps change, into its block, which has the others already.
@@ -63,10 +63,10 @@ pub fn put_state(block: &mut [u8], m: Machine)
     requires same_machine { SameMachine m (machine_of block.old) }
     ensures { block.new ≡ put_machine m block.old }
 {
-    write8(block, 16, m.mtype);
-    write8(block, 24, m.tile_m);
-    write8(block, 32, m.tile_k);
-    write8(block, 40, m.tile_n);
+    u64::write(block, 16, m.mtype);
+    u64::write(block, 24, m.tile_m);
+    u64::write(block, 32, m.tile_k);
+    u64::write(block, 40, m.tile_n);
 }
 
 // Writes the ranges that a start is given, start and length of each in turn, over the first slots.
@@ -75,12 +75,10 @@ fn put_ranges(block: &mut [u8], seals: &[u64], count: usize)
     requires count_bound { (count ≤ 8) × (2 * count ≤ length seals.now) }
     ensures { block.new ≡ upto count (λ i. put_range i (get_or (ranges seals.now) i (range 0 0))) block.old }
 {
-    let mut i = 0;
-    while i < count {
+    for i in 0..count {
         let start = seals[2 * i];
         let size = seals[2 * i + 1];
         put_range(block, i, start, size);
-        i += 1;
     }
 }
 
@@ -92,7 +90,7 @@ pub fn put_seals(block: &mut [u8], seals: &[u64])
     ensures { block.new ≡ put_seals (ranges seals.now) block.old }
 {
     let count = seals.len() / 2;
-    write8(block, 80, count as u64);
+    u64::write(block, 80, count as u64);
     put_ranges(block, seals, count);
     clear_slots(block, count);
 }

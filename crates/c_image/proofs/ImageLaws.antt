@@ -1,6 +1,7 @@
 -- What each return of a function on images has to show.
+use Rattle.std.specs.Prelude.{Result, Ok, Err}
 use mathlib.Core.Path.{◌≡◌, refl, sym, ap, ap₂, ◌∙◌}
-use mathlib.Core.Bool.{Bool, true, false, cond, false≢true}
+use mathlib.Core.Bool.{Bool, true, false, cond}
 use mathlib.Core.List.{List}
 use Prim.Native.Nat.{ℕ, ◌+◌, ◌*◌, ◌%◌, ◌^◌}
 use native.Mathlib.Omega.{arith}
@@ -8,42 +9,48 @@ use lib.Dec.{eqb}
 use lib.ListN.{length}
 use borrow.Author.Tests.{eq-eqb, ne_eqb, eqb-true}
 use Rattle.machine.specs.declared.Machine.{Machine}
-use Rattle.image.specs.declared.Imaged.{Imaged}
-use Rattle.image.specs.declared.Imaged.TheVariants.{Done, BadArguments, NoRoom, Damaged}
-use Rattle.image.specs.declared.Sized.{Sized}
-use Rattle.image.specs.declared.Written.{Written}
-use Rattle.image.specs.declared.Restored.{Restored}
-use Rattle.image.specs.Answers.{image_reply}
-use Rattle.image.specs.Writing.{SizeOutcome, size_image, sized_as, WriteOutcome, write_image, written_as}
+use Rattle.image.specs.declared.ImageError.{ImageError}
+use Rattle.image.specs.declared.ImageError.TheVariants.{BadArguments, NoRoom, Damaged}
+use Rattle.image.specs.Answers.{image_reply, image_done}
+use Rattle.image.specs.Writing.{SizeOutcome, size_reply, size_image, WriteOutcome, write_reply, write_image}
 use Rattle.unit_ranges.specs.Ranges.{seals_in}
 use Rattle.image_read.specs.Blocks.{BlockOutcome, restored_as, block_refused, into_block, read_block}
 use Rattle.image.specs.Reading.{check_image, read_image}
-use Rattle.machine.specs.Starting.{no_machine}
-use Rattle.image_check.specs.Parts.{image_done}
-use Rattle.image_check.proofs.CheckLaws.{done-number}
 use Rattle.c_blocks.specs.Blocks.{machine_bytes, machine_of, put_machine}
 use Rattle.c_image.specs.ImageCalls.{packed_reply, host_image_size, written_out, host_image_write, read_out, shown_read, host_image_read}
 
 -- ---- results
 
-module _ (a : Imaged) (size : ℕ) where
-  pub packs-done : a ≡ Done → size % 2 ^ 48 * 2 ^ 16 ≡ packed_reply (image_reply a) size
-  unfolding packed_reply
-  packs-done e = rw e (omega arith)
+module _ (reply : Result ℕ ImageError) where
+  abbrev packed : ℕ
+  packed = packed_reply (size_reply reply).answer (size_reply reply).size
 
-  pub packs-arguments : a ≡ BadArguments → 8 ≡ packed_reply (image_reply a) size
+  pub packs-done : (size : ℕ) → reply ≡ Ok size → size % 2 ^ 48 * 2 ^ 16 ≡ packed
   unfolding packed_reply
-  packs-arguments e = rw e
+  packs-done size e = rw e (omega arith)
 
-  pub packs-room : a ≡ NoRoom → 14 ≡ packed_reply (image_reply a) size
-  unfolding packed_reply
-  packs-room e = rw e
+  pub packs-refused : (e : ImageError) → reply ≡ Err e → packed_reply (image_reply e) 0 ≡ packed
+  packs-refused e is = rw is
 
-  pub packs-place : (p : ℕ) → a ≡ Damaged p → 15 + p % 2 ^ 48 * 2 ^ 16 ≡ packed_reply (image_reply a) size
+module _ (e : ImageError) where
+  pub packs-arguments : e ≡ BadArguments → 8 ≡ packed_reply (image_reply e) 0
   unfolding packed_reply
-  packs-place p e = rw e
+  packs-arguments is = rw is
+
+  pub packs-room : e ≡ NoRoom → 14 ≡ packed_reply (image_reply e) 0
+  unfolding packed_reply
+  packs-room is = rw is
+
+  pub packs-place : (p : ℕ) → e ≡ Damaged p → 15 + p % 2 ^ 48 * 2 ^ 16 ≡ packed_reply (image_reply e) 0
+  unfolding packed_reply
+  packs-place p is = rw is
 
 -- ---- sizing and writing
+
+-- what is returned of a length is as of a size
+shown_written : (s : Result ℕ ImageError) (room : List ℕ) → written_out (packed_reply (size_reply s).answer (size_reply s).size) room ≡ (let o = write_reply s room in written_out (packed_reply o.answer o.size) o.room)
+shown_written (Ok n) room = refl
+shown_written (Err e) room = refl
 
 module _ (machine registers marks : List ℕ) where
   -- a block of another length
@@ -51,8 +58,8 @@ module _ (machine registers marks : List ℕ) where
   unfolding host_image_size
   size-short r h er = rw (er, ne_eqb (length machine) machine_bytes h)
 
-  pub size-shown : (m : Machine) (s : Sized) (r : ℕ) → length machine ≡ machine_bytes → m ≡ machine_of machine → sized_as s ≡ size_image m (seals_in machine) registers marks
-      → r ≡ packed_reply (image_reply s.answer) s.size → r ≡ host_image_size machine registers marks
+  pub size-shown : (m : Machine) (s : Result ℕ ImageError) (r : ℕ) → length machine ≡ machine_bytes → m ≡ machine_of machine → size_reply s ≡ size_image m (seals_in machine) registers marks
+      → r ≡ packed_reply (size_reply s).answer (size_reply s).size → r ≡ host_image_size machine registers marks
   unfolding host_image_size
   size-shown m s r h em e er =
       er ∙ ap (λ (o : SizeOutcome). packed_reply o.answer o.size) (e ∙ ap (λ (x : Machine). size_image x (seals_in machine) registers marks) em)
@@ -63,41 +70,49 @@ module _ (machine registers marks : List ℕ) where
   unfolding host_image_write
   write-short image r h er = rw (er, ne_eqb (length machine) machine_bytes h)
 
-  pub write-shown : (image image' : List ℕ) (m : Machine) (s : Written) (r : ℕ) → length machine ≡ machine_bytes → m ≡ machine_of machine → written_as s image' ≡ write_image m (seals_in machine) registers marks image
-      → r ≡ packed_reply (image_reply s.answer) s.length → written_out r image' ≡ host_image_write machine registers marks image
+  pub write-shown : (image image' : List ℕ) (m : Machine) (s : Result ℕ ImageError) (r : ℕ) → length machine ≡ machine_bytes → m ≡ machine_of machine → write_reply s image' ≡ write_image m (seals_in machine) registers marks image
+      → r ≡ packed_reply (size_reply s).answer (size_reply s).size → written_out r image' ≡ host_image_write machine registers marks image
   unfolding host_image_write
   write-shown image image' m s r h em e er =
-      ap (λ (x : ℕ). written_out x image') er
+      ap (λ (x : ℕ). written_out x image') er ∙ shown_written s image'
       ∙ ap (λ (o : WriteOutcome). written_out (packed_reply o.answer o.size) o.room) (e ∙ ap (λ (x : Machine). write_image x (seals_in machine) registers marks image) em)
       ∙ ap (λ (t : Bool). cond t (written_out (packed_reply (write_image (machine_of machine) (seals_in machine) registers marks image).answer (write_image (machine_of machine) (seals_in machine) registers marks image).size) (write_image (machine_of machine) (seals_in machine) registers marks image).room) (written_out (packed_reply (image_reply BadArguments) 0) image))
       (sym (eq-eqb (length machine) machine_bytes h))
 
 -- ---- reading
 
+-- a refusal has a number
+refused-number : (e : ImageError) → (image_reply e).number ≡ 0 → ⊥
+refused-number BadArguments h = absurd (omega (arith, h))
+refused-number NoRoom h = absurd (omega (arith, h))
+refused-number (Damaged p) h = absurd (omega (arith, h))
+
 module _ (image machine registers marks : List ℕ) where
-  -- what the read has answered and left, and the machine's numbers written exactly where it is done
-  pub read-shown : (t : Bool) (s : Restored) (B M R K : List ℕ) (r : ℕ) → restored_as s B R K ≡ read_block image machine registers marks
-      → image_done s.answer ≡ t → M ≡ cond t (put_machine s.machine B) B → r ≡ packed_reply (image_reply s.answer) 0
-      → read_out r M R K ≡ host_image_read image machine registers marks
+  -- what a read that is done has answered and left, with the machine's numbers written
+  pub read-shown : (m : Machine) (B M R K : List ℕ) (r : ℕ) → restored_as (Ok m) B R K ≡ read_block image machine registers marks
+      → M ≡ put_machine m B → r ≡ packed_reply image_done 0 → read_out r M R K ≡ host_image_read image machine registers marks
   unfolding host_image_read
-  read-shown t s B M R K r e et em er =
-      ap₂ (λ (x : ℕ) (y : List ℕ). read_out x y R K) er (em ∙ ap (λ (t : Bool). cond t (put_machine s.machine B) B) (sym et ∙ done-number s.answer))
-      ∙ ap shown_read e
+  read-shown m B M R K r e em er = ap₂ (λ (x : ℕ) (y : List ℕ). read_out x y R K) er em ∙ ap shown_read e
+
+  -- and one that is refused
+  pub read-refused : (x : ImageError) (B R K : List ℕ) (r : ℕ) → restored_as (Err x) B R K ≡ read_block image machine registers marks
+      → r ≡ packed_reply (image_reply x) 0 → read_out r B R K ≡ host_image_read image machine registers marks
+  unfolding host_image_read
+  read-refused x B R K r e er = ap (λ (y : ℕ). read_out y B R K) er ∙ kept x ∙ ap shown_read e
+    where
+      kept : (x : ImageError) → read_out (packed_reply (image_reply x) 0) B R K ≡ shown_read (restored_as (Err x) B R K)
+      kept BadArguments = refl
+      kept NoRoom = refl
+      kept (Damaged p) = refl
 
   -- one that is done was into a block of the right length
-  pub read-long : (s : Restored) (B R K : List ℕ) → restored_as s B R K ≡ read_block image machine registers marks → image_done s.answer ≡ true → length machine ≡ machine_bytes
+  pub read-long : (m : Machine) (B R K : List ℕ) → restored_as (Ok m) B R K ≡ read_block image machine registers marks → length machine ≡ machine_bytes
   unfolding read_block
-  read-long s B R K e d = go (eqb (length machine) machine_bytes) refl (sym (done-number s.answer) ∙ d) e
+  read-long m B R K e = go (eqb (length machine) machine_bytes) refl e
     where
       out : Bool → BlockOutcome
-      out t = cond t (into_block machine (read_image image registers marks)) (restored_as (record { answer = block_refused (check_image image); machine = no_machine }) machine registers marks)
+      out t = cond t (into_block machine (read_image image registers marks)) (restored_as (Err (block_refused (check_image image))) machine registers marks)
 
-      never : (a : Imaged) → eqb (image_reply (block_refused a)).number 0 ≡ true → ⊥
-      never Done h = false≢true h
-      never BadArguments h = false≢true h
-      never NoRoom h = false≢true h
-      never (Damaged p) h = false≢true h
-
-      go : (t : Bool) → eqb (length machine) machine_bytes ≡ t → eqb (image_reply s.answer).number 0 ≡ true → restored_as s B R K ≡ out t → length machine ≡ machine_bytes
-      go true h n e = eqb-true (length machine) machine_bytes h
-      go false h n e = absurd (never (check_image image) (sym (ap (λ (o : BlockOutcome). eqb o.answer.number 0) e) ∙ n))
+      go : (t : Bool) → eqb (length machine) machine_bytes ≡ t → restored_as (Ok m) B R K ≡ out t → length machine ≡ machine_bytes
+      go true h e = eqb-true (length machine) machine_bytes h
+      go false h e = absurd (refused-number (block_refused (check_image image)) (sym (ap (λ (o : BlockOutcome). o.answer.number) e)))

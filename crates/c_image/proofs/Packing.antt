@@ -1,7 +1,8 @@
 -- Nothing of a result is cut.
+use Rattle.std.specs.Prelude.{Ok, Err}
 use mathlib.Core.Path.{◌≡◌, refl}
 use mathlib.Core.Bool.{Bool, true, false, cond}
-use mathlib.Core.List.{List, [], ◌++◌}
+use mathlib.Core.List.{List, ◌++◌}
 use Prim.Native.Nat.{ℕ, ◌^◌, ◌≤◌, ◌<◌}
 use native.Mathlib.Omega.{arith}
 use lib.Dec.{eqb, leb}
@@ -9,14 +10,13 @@ use lib.ListN.{length, drop}
 use Rattle.numbers_format.specs.Parser.{Parsed, parse}
 use Rattle.numbers_format.specs.Parser.Parsed.{whole, stopped}
 use Rattle.machine.specs.declared.Machine.{Machine}
-use Rattle.machine.specs.Starting.{no_machine}
-use Rattle.image.specs.declared.Imaged.TheVariants.{Done, BadArguments, NoRoom, Damaged}
+use Rattle.image.specs.declared.ImageError.TheVariants.{BadArguments, NoRoom, Damaged}
 use Rattle.image.specs.Answers.{ImageReply, image_reply}
 use Rattle.image.specs.Cells.{over, marks_of}
 use Rattle.image.specs.Images.{Seals, machine_from, image_of, sound_with}
 use Rattle.image.specs.ImageFormat.{Described, image_format}
 use Rattle.image.specs.Writing.{SizeOutcome, size_reply, size_image, WriteOutcome, write_reply, write_image}
-use Rattle.image.specs.Reading.{verdict_of, check_image, ReadOutcome, restored, cells_in, fitted, read_as, read_image}
+use Rattle.image.specs.Reading.{verdict_of, check_image, ReadOutcome, restored, cells_in, fitted, read_as, read_image, not_restored}
 use Rattle.unit_ranges.specs.Ranges.{seals_in}
 use Rattle.image_read.specs.Blocks.{BlockOutcome, restored_as, block_refused, into_block, read_block}
 use Rattle.c_blocks.specs.Blocks.{machine_bytes, machine_of}
@@ -49,7 +49,7 @@ module _ (m : Machine) (seals : Seals) (registers marks : List ℕ) where
   size_small = go (sound_with m seals registers marks) refl
     where
       out : Bool → SizeOutcome
-      out t = cond t (size_reply Done (length (image_of m seals registers marks))) (size_reply BadArguments 0)
+      out t = cond t (size_reply (Ok (length (image_of m seals registers marks)))) (size_reply (Err BadArguments))
 
       go : (t : Bool) → sound_with m seals registers marks ≡ t → Small (out t).answer (out t).size
       go true e = record { number_small = omega arith; size_small = image-short m seals registers marks e; place-small = omega arith }
@@ -63,7 +63,7 @@ module _ (m : Machine) (seals : Seals) (registers marks : List ℕ) where
       image = image_of m seals registers marks
 
       out : Bool → Bool → WriteOutcome
-      out t u = cond t (cond u (write_reply Done (length image) (image ++ drop (length image) room)) (write_reply NoRoom 0 room)) (write_reply BadArguments 0 room)
+      out t u = cond t (cond u (write_reply (Ok (length image)) (image ++ drop (length image) room)) (write_reply (Err NoRoom) room)) (write_reply (Err BadArguments) room)
 
       go : (t : Bool) → sound_with m seals registers marks ≡ t → (u : Bool) → Small (out t u).answer (out t u).size
       go true e true = record { number_small = omega arith; size_small = image-short m seals registers marks e; place-small = omega arith }
@@ -77,7 +77,7 @@ image-size-packs-whole machine registers marks = go (eqb (length machine) machin
     o : SizeOutcome
     o = size_image (machine_of machine) (seals_in machine) registers marks
 
-    go : (t : Bool) → let q : SizeOutcome = cond t o (size_reply BadArguments 0) in
+    go : (t : Bool) → let q : SizeOutcome = cond t o (size_reply (Err BadArguments)) in
         PacksWhole (cond t (packed_reply o.answer o.size) (packed_reply (image_reply BadArguments) 0)) q.answer q.size
     go true = packs o.answer o.size (size_small (machine_of machine) (seals_in machine) registers marks)
     go false = packs (image_reply BadArguments) 0 refused
@@ -92,7 +92,7 @@ image-write-packs-whole machine registers marks image = go (eqb (length machine)
     out : Bool → HostWritten
     out t = cond t (written_out (packed_reply o.answer o.size) o.room) (written_out (packed_reply (image_reply BadArguments) 0) image)
 
-    go : (t : Bool) → let q : WriteOutcome = cond t o (write_reply BadArguments 0 image) in PacksWhole (out t).result q.answer q.size
+    go : (t : Bool) → let q : WriteOutcome = cond t o (write_reply (Err BadArguments) image) in PacksWhole (out t).result q.answer q.size
     go true = packs o.answer o.size (write-small (machine_of machine) (seals_in machine) registers marks image)
     go false = packs (image_reply BadArguments) 0 refused
 
@@ -110,7 +110,7 @@ read_small (stopped p) registers marks h = damaged p h
 read_small (whole d) registers marks h = go (fitted d registers marks)
   where
     out : Bool → ReadOutcome
-    out t = cond t (restored Done (machine_from d.header) d.header.seals (over (cells_in d) registers) (marks_of (cells_in d))) (restored BadArguments no_machine [] registers marks)
+    out t = cond t (restored (machine_from d.header) d.header.seals (over (cells_in d) registers) (marks_of (cells_in d))) (not_restored BadArguments registers marks)
 
     go : (t : Bool) → Small (out t).answer 0
     go true = record { number_small = omega arith; size_small = omega arith; place-small = omega arith }
@@ -124,7 +124,7 @@ image-read-packs-whole image machine registers marks = go (eqb (length machine) 
     q = parse image_format image
 
     out : Bool → BlockOutcome
-    out t = cond t (into_block machine (read_as q registers marks)) (restored_as (record { answer = block_refused (verdict_of q); machine = no_machine }) machine registers marks)
+    out t = cond t (into_block machine (read_as q registers marks)) (restored_as (Err (block_refused (verdict_of q))) machine registers marks)
 
     go : (t : Bool) → PacksWhole (packed_reply (out t).answer 0) (out t).answer 0
     go true = packs (read_as q registers marks).answer 0 (read_small q registers marks (place_short image))

@@ -1,4 +1,5 @@
 -- A refusal changes no byte of any buffer.
+use Rattle.std.specs.Prelude.{Err}
 use mathlib.Core.Path.{◌≡◌, refl, ap, ap₂, ◌∙◌}
 use mathlib.Core.Bool.{Bool, true, false, cond}
 use mathlib.Core.List.{List}
@@ -7,7 +8,7 @@ use native.Mathlib.Omega.{arith}
 use lib.Dec.{eqb}
 use lib.ListN.{length}
 use borrow.Author.Tests.{eqb-true, ne_eqb}
-use Rattle.image.specs.declared.Imaged.TheVariants.{BadArguments}
+use Rattle.image.specs.declared.ImageError.TheVariants.{BadArguments}
 use Rattle.image.specs.Answers.{ImageReply, image_reply}
 use Rattle.image.specs.Writing.{WriteOutcome, write_image}
 use Rattle.image.specs.Reading.{check_image, ReadOutcome, read_image}
@@ -47,7 +48,7 @@ image-read-refusal image machine registers marks = go (eqb (length machine) mach
     o = read_image image registers marks
 
     out : Bool → BlockOutcome
-    out t = cond t (into_block machine o) (restored_as (record { answer = block_refused (check_image image); machine = no_machine }) machine registers marks)
+    out t = cond t (into_block machine o) (restored_as (Err (block_refused (check_image image))) machine registers marks)
 
     -- a refused read leaves the block, by its number
     kept : (n : ℕ) → ¬ (n ≡ 0) → (x : List ℕ) (m : Machine) → cond (eqb n 0) (put_machine m (cond (eqb n 0) x machine)) (cond (eqb n 0) x machine) ≡ machine

@@ -1,6 +1,6 @@
 -- What each call on images answers and leaves (include/bodlarina.h).
 use Rattle.std.specs.Prelude.{cond, List, ℕ, ◌+◌, ◌*◌, ◌%◌, ◌^◌, length, eqb}
-use Rattle.image.specs.declared.Imaged.TheVariants.{BadArguments}
+use Rattle.image.specs.declared.ImageError.TheVariants.{BadArguments}
 use Rattle.image.specs.Answers.{ImageReply, image_reply}
 use Rattle.image.specs.Writing.{SizeOutcome, size_image, WriteOutcome, write_image}
 use Rattle.unit_ranges.specs.Ranges.{seals_in}

@@ -1,6 +1,7 @@
 -- What is proved of these definitions. The proofs stand in proofs/.
+use Rattle.std.specs.Prelude.{Err}
 use Rattle.std.specs.Prelude.{◌≡◌, cond, List, ℕ, ◌/◌, ◌%◌, ◌^◌, eqb, length}
-use Rattle.image.specs.declared.Imaged.TheVariants.{BadArguments}
+use Rattle.image.specs.declared.ImageError.TheVariants.{BadArguments}
 use Rattle.image.specs.Answers.{ImageReply}
 use Rattle.image.specs.Writing.{SizeOutcome, size_reply, size_image, WriteOutcome, write_reply, write_image}
 use Rattle.unit_ranges.specs.Ranges.{seals_in}
@@ -27,13 +28,13 @@ PacksWhole result a size = (result % 2 ^ 16 ≡ a.number) × (result / 2 ^ 16 �
 -- the length of the machine's image
 abbrev pub ImageSizePacksWhole : Type 0
 ImageSizePacksWhole = (machine registers marks : List ℕ)
-    → let o : SizeOutcome = cond (eqb (length machine) machine_bytes) (size_image (machine_of machine) (seals_in machine) registers marks) (size_reply BadArguments 0) in
+    → let o : SizeOutcome = cond (eqb (length machine) machine_bytes) (size_image (machine_of machine) (seals_in machine) registers marks) (size_reply (Err BadArguments)) in
     PacksWhole (host_image_size machine registers marks) o.answer o.size
 
 -- the length of what is written
 abbrev pub ImageWritePacksWhole : Type 0
 ImageWritePacksWhole = (machine registers marks image : List ℕ)
-    → let o : WriteOutcome = cond (eqb (length machine) machine_bytes) (write_image (machine_of machine) (seals_in machine) registers marks image) (write_reply BadArguments 0 image) in
+    → let o : WriteOutcome = cond (eqb (length machine) machine_bytes) (write_image (machine_of machine) (seals_in machine) registers marks image) (write_reply (Err BadArguments) image) in
     PacksWhole (host_image_write machine registers marks image).result o.answer o.size
 
 -- the place of answer 15; a read that is done gives no length

@@ -1,10 +1,11 @@
 -- A refusal changes no byte of any buffer.
+use Rattle.std.specs.Prelude.{Err}
 use mathlib.Core.Path.{◌≡◌, refl, ap}
 use mathlib.Core.Bool.{Bool, true, false, cond}
 use mathlib.Core.List.{[], ◌∷◌}
 use lib.ListN.{length}
 use lib.Dec.{eqb}
-use Rattle.machine.specs.declared.Answer.TheVariants.{BadArguments}
+use Rattle.machine.specs.declared.Refusal.TheVariants.{BadArguments}
 use Rattle.machine.specs.Tests.{every}
 use Rattle.machine.specs.Answers.{reply}
 use Rattle.machine.specs.Geometry.{bench_of}
@@ -28,7 +29,7 @@ run-start-refusal P machine registers marks memory run = go (every (eqb (length 
     s = start_run chosen P (bench_of (machine_of machine) (seals_in machine) registers marks memory)
 
     out : Bool → HostRunStarted
-    out t = cond t (shown_run_start machine run s) (run_started_out (packed (reply BadArguments)) machine registers marks memory run)
+    out t = cond t (shown_run_start machine run s) (run_started_out (packed (reply (Err BadArguments))) machine registers marks memory run)
 
     go : (t : Bool) → ¬ ((out t).result ≡ 0) → out t ≡ run_started_out (out t).result machine registers marks memory run
     go true d = ap (λ (t : Bool). run_started_out (packed s.answer) machine registers marks memory (cond t (put_run s.run run) run)) (packed-refused s.answer (start-zero chosen P (bench_of (machine_of machine) (seals_in machine) registers marks memory)) d)
@@ -42,7 +43,7 @@ next-refusal run step = go (every (run_fit run ∷ eqb (length step) 24 ∷ []))
     a = asked (ask chosen (run_of run))
 
     out : Bool → HostNext
-    out t = cond t (shown_next run step a) (next_out (packed (reply BadArguments)) run step)
+    out t = cond t (shown_next run step a) (next_out (packed (reply (Err BadArguments))) run step)
 
     go : (t : Bool) → ¬ ((out t).result ≡ 0) → out t ≡ next_out (out t).result run step
     go true d =

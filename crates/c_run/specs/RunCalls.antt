@@ -1,6 +1,6 @@
 -- What the calls of C that start a run, ask it for a step and count its steps answer and leave (include/bodlarina.h).
-use Rattle.std.specs.Prelude.{cond, List, [], ◌∷◌, ℕ, length, eqb}
-use Rattle.machine.specs.declared.Answer.TheVariants.{BadArguments}
+use Rattle.std.specs.Prelude.{Err, cond, List, [], ◌∷◌, ℕ, length, eqb}
+use Rattle.machine.specs.declared.Refusal.TheVariants.{BadArguments}
 use Rattle.machine.specs.Tests.{every}
 use Rattle.machine.specs.Answers.{reply, done}
 use Rattle.machine.specs.Geometry.{bench_of}
@@ -43,7 +43,7 @@ unfoldable pub host_run_start : Plan → (machine registers marks memory run : L
 host_run_start P machine registers marks memory run =
     cond (every (eqb (length machine) machine_bytes ∷ eqb (length run) run_bytes ∷ []))
     (shown_run_start machine run (start_run chosen P (bench_of (machine_of machine) (seals_in machine) registers marks memory)))
-    (run_started_out (packed (reply BadArguments)) machine registers marks memory run)
+    (run_started_out (packed (reply (Err BadArguments))) machine registers marks memory run)
 
 -- ---- asking a run for its next step
 
@@ -65,7 +65,7 @@ unfoldable pub host_next : (run step : List ℕ) → HostNext
 host_next run step =
     cond (every (run_fit run ∷ eqb (length step) step_bytes ∷ []))
     (shown_next run step (asked (ask chosen (run_of run))))
-    (next_out (packed (reply BadArguments)) run step)
+    (next_out (packed (reply (Err BadArguments))) run step)
 
 -- ---- the number of a run's steps
 

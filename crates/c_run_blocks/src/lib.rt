@@ -8,7 +8,7 @@ ghost use Rattle.c_blocks.specs.Blocks.{put_numbers};
 ghost use Rattle.c_run_blocks.specs.RunBlocks.{spot, spot_of, place_of, layout_of, plan_of, run_bytes, spot_in, run_of, same_spot, run_fit, plan_numbers, put_run, RunKept, step_bytes, put_handed};
 
 use run::{Handed, Layout, Place, Plan, Run};
-use unit_element::{read8, write8};
+use unit_element::Element;
 
 // The bytes of a run's block.
 pub const RUN_BYTES: usize = 160;
@@ -28,45 +28,22 @@ pub struct Spot {
 fn place_of(spot: Spot) -> Place
     ensures { result ≡ place_of spot }
 {
-    let kind = spot.kind;
-    let row = spot.row;
-    let column = spot.column;
-    let term = spot.term;
+    let Spot {
+        kind,
+        row,
+        column,
+        term,
+    } = spot;
     match kind {
         0 => Place::AtType,
-        1 => Place::AtM { row: row },
-        2 => Place::AtN {
-            row: row,
-            column: column,
-        },
-        3 => Place::AtClear {
-            row: row,
-            column: column,
-        },
-        4 => Place::AtK {
-            row: row,
-            column: column,
-            term: term,
-        },
-        5 => Place::AtA {
-            row: row,
-            column: column,
-            term: term,
-        },
-        6 => Place::AtB {
-            row: row,
-            column: column,
-            term: term,
-        },
-        7 => Place::AtMultiply {
-            row: row,
-            column: column,
-            term: term,
-        },
-        8 => Place::AtStore {
-            row: row,
-            column: column,
-        },
+        1 => Place::AtM { row },
+        2 => Place::AtN { row, column },
+        3 => Place::AtClear { row, column },
+        4 => Place::AtK { row, column, term },
+        5 => Place::AtA { row, column, term },
+        6 => Place::AtB { row, column, term },
+        7 => Place::AtMultiply { row, column, term },
+        8 => Place::AtStore { row, column },
         _ => Place::AtEnd,
     }
 }
@@ -75,10 +52,10 @@ fn spot_at(kind: u64, row: u64, column: u64, term: u64) -> Spot
     ensures { result ≡ spot kind row column term }
 {
     Spot {
-        kind: kind,
-        row: row,
-        column: column,
-        term: term,
+        kind,
+        row,
+        column,
+        term,
     }
 }
 
@@ -106,8 +83,8 @@ fn layout_of(block: &[u8], at: usize) -> Layout
     ensures { result ≡ layout_of block.now at }
 {
     Layout {
-        address: read8(block, at),
-        stride: read8(block, at + 8),
+        address: u64::read(block, at),
+        stride: u64::read(block, at + 8),
     }
 }
 
@@ -119,15 +96,15 @@ fn plan_of(block: &[u8]) -> Plan
     let b = layout_of(block, 56);
     let c = layout_of(block, 72);
     Plan {
-        kind: read8(block, 136),
-        sew: read8(block, 0),
-        factor: read8(block, 8),
-        m: read8(block, 16),
-        k: read8(block, 24),
-        n: read8(block, 32),
-        a: a,
-        b: b,
-        c: c,
+        kind: u64::read(block, 136),
+        sew: u64::read(block, 0),
+        factor: u64::read(block, 8),
+        m: u64::read(block, 16),
+        k: u64::read(block, 24),
+        n: u64::read(block, 32),
+        a,
+        b,
+        c,
     }
 }
 
@@ -137,10 +114,10 @@ fn spot_in(block: &[u8]) -> Spot
     ensures { result ≡ spot_in block.now }
 {
     Spot {
-        kind: read8(block, 104),
-        row: read8(block, 112),
-        column: read8(block, 120),
-        term: read8(block, 128),
+        kind: u64::read(block, 104),
+        row: u64::read(block, 112),
+        column: u64::read(block, 120),
+        term: u64::read(block, 128),
     }
 }
 
@@ -153,31 +130,23 @@ pub fn run_of(block: &[u8]) -> Run
     let spot = spot_in(block);
     let place = place_of(spot);
     Run {
-        plan: plan,
-        rlen: read8(block, 88),
-        mlen: read8(block, 96),
-        rule: read8(block, 144),
-        elen: read8(block, 152),
-        place: place,
+        plan,
+        rlen: u64::read(block, 88),
+        mlen: u64::read(block, 96),
+        rule: u64::read(block, 144),
+        elen: u64::read(block, 152),
+        place,
     }
 }
 
 fn same_spot(s: Spot, t: Spot) -> bool
     ensures { result ≡ every (same_spot s t) }
 {
-    if s.kind != t.kind {
-        return false;
-    }
-    if s.row != t.row {
-        return false;
-    }
-    if s.column != t.column {
-        return false;
-    }
-    s.term == t.term
+    s.kind == t.kind && s.row == t.row && s.column == t.column && s.term == t.term
 }
 
 // Whether a block is one that a run can lie in.
+#[tactic(auto, unfolding(crate::specs::RunBlocks::run_fit))]
 pub fn is_fit(block: &[u8]) -> bool
     ensures { result ≡ run_fit block.now }
 {
@@ -185,9 +154,7 @@ pub fn is_fit(block: &[u8]) -> bool
         return false;
     }
     let held = spot_in(block);
-    let place = place_of(held);
-    let own = spot_of(place);
-    same_spot(held, own)
+    same_spot(held, spot_of(place_of(held)))
 }
 
 // ---- a run and a step into their blocks
@@ -196,8 +163,8 @@ fn put_layout(block: &mut [u8], at: usize, layout: Layout)
     requires { at + 16 ≤ length block.old }
     ensures { block.new ≡ put_le (at + 8) 8 layout.stride (put_le at 8 layout.address block.old) }
 {
-    write8(block, at, layout.address);
-    write8(block, at + 8, layout.stride);
+    u64::write(block, at, layout.address);
+    u64::write(block, at + 8, layout.stride);
 }
 
 // The numbers of a plan before its layouts.
@@ -205,11 +172,11 @@ fn put_sizes(block: &mut [u8], plan: Plan)
     requires { length block.old ≡ run_bytes }
     ensures { block.new ≡ put_numbers (plan.sew ∷ plan.factor ∷ plan.m ∷ plan.k ∷ plan.n ∷ []) block.old }
 {
-    write8(block, 0, plan.sew);
-    write8(block, 8, plan.factor);
-    write8(block, 16, plan.m);
-    write8(block, 24, plan.k);
-    write8(block, 32, plan.n);
+    u64::write(block, 0, plan.sew);
+    u64::write(block, 8, plan.factor);
+    u64::write(block, 16, plan.m);
+    u64::write(block, 24, plan.k);
+    u64::write(block, 32, plan.n);
 }
 
 fn put_plan(block: &mut [u8], plan: Plan)
@@ -230,10 +197,10 @@ fn put_spot(block: &mut [u8], spot: Spot)
     ensures { block.new
         ≡ put_le 128 8 spot.term (put_le 120 8 spot.column (put_le 112 8 spot.row (put_le 104 8 spot.kind block.old))) }
 {
-    write8(block, 104, spot.kind);
-    write8(block, 112, spot.row);
-    write8(block, 120, spot.column);
-    write8(block, 128, spot.term);
+    u64::write(block, 104, spot.kind);
+    u64::write(block, 112, spot.row);
+    u64::write(block, 120, spot.column);
+    u64::write(block, 128, spot.term);
 }
 
 // A run into its block.
@@ -243,14 +210,14 @@ pub fn put_run(block: &mut [u8], run: Run)
 {
     let plan = run.plan;
     put_plan(block, plan);
-    write8(block, 88, run.rlen);
-    write8(block, 96, run.mlen);
+    u64::write(block, 88, run.rlen);
+    u64::write(block, 96, run.mlen);
     let place = run.place;
     let spot = spot_of(place);
     put_spot(block, spot);
-    write8(block, 136, plan.kind);
-    write8(block, 144, run.rule);
-    write8(block, 152, run.elen);
+    u64::write(block, 136, plan.kind);
+    u64::write(block, 144, run.rule);
+    u64::write(block, 152, run.elen);
 }
 
 // The place of a run into its block, which has the run's other numbers already.
@@ -269,7 +236,7 @@ pub fn put_handed(block: &mut [u8], handed: Handed)
     requires { length block.old ≡ step_bytes }
     ensures { block.new ≡ put_handed handed block.old }
 {
-    write8(block, 0, handed.word as u64);
-    write8(block, 8, handed.address);
-    write8(block, 16, handed.stride);
+    u64::write(block, 0, handed.word as u64);
+    u64::write(block, 8, handed.address);
+    u64::write(block, 16, handed.stride);
 }

@@ -4,8 +4,8 @@ use Rattle.numbers_format.specs.Numbers.{ByteString}
 use Rattle.numbers_format.specs.Parser.{Parsed, parse}
 use Rattle.numbers_format.specs.Parser.Parsed.{whole, stopped}
 use Rattle.numbers_format.proofs.FormatLaws.{ParseRight, parse-right}
-use Rattle.image.specs.declared.Imaged.TheVariants.{Done, BadArguments, NoRoom}
-use Rattle.image.specs.Answers.{ImageReply}
+use Rattle.image.specs.declared.ImageError.TheVariants.{BadArguments, NoRoom}
+use Rattle.image.specs.Answers.{ImageReply, image_done, image_reply}
 use Rattle.image.specs.Images.{spelled, IsImage}
 use Rattle.image.specs.ImageFormat.{Described, image_format}
 use Rattle.image.proofs.ImageLaws.{image-live}
@@ -45,7 +45,7 @@ module _ (s : List ℕ) (b : ByteString s) where
           fresh = spelled k.header k.body
 
           out : Bool → SalvageOutcome
-          out t = cond t (salvaged Done (length k.body) k.announced (place_in s) (length fresh) (fresh ++ drop (length fresh) room)) (salvaged NoRoom 0 0 (place_in s) 0 room)
+          out t = cond t (salvaged image_done (length k.body) k.announced (place_in s) (length fresh) (fresh ++ drop (length fresh) room)) (salvaged (image_reply NoRoom) 0 0 (place_in s) 0 room)
 
           by : (t : Bool) → Small (reply (out t)) (out t).size
           by true = record { number_small = omega arith; size_small = image-small fresh (kept-image s b k e); place-small = place-small }
@@ -61,6 +61,6 @@ salvage-packs-whole image room report b = go (eqb (length report) report_bytes)
     out : Bool → HostSalvaged
     out t = cond t (shown_salvage report o) (salvaged_out (packed_salvage 8 0 0) room report)
 
-    go : (t : Bool) → let q : SalvageOutcome = cond t o (salvaged BadArguments 0 0 0 0 room) in PacksWhole (out t).result (record { number = q.answer.number; place = q.place }) q.size
+    go : (t : Bool) → let q : SalvageOutcome = cond t o (salvaged (image_reply BadArguments) 0 0 0 0 room) in PacksWhole (out t).result (record { number = q.answer.number; place = q.place }) q.size
     go true = packs (record { number = o.answer.number; place = o.place }) o.size (out-small image b room)
     go false = packs (record { number = 8; place = 0 }) 0 (record { number_small = omega arith; size_small = omega arith; place-small = omega arith })

@@ -10,7 +10,7 @@ use Rattle.image.specs.Cells.{Run}
 use Rattle.image.specs.Cells.Run.{run}
 use Rattle.image.specs.Images.{runs_bytes, spelled}
 use Rattle.image.specs.ImageFormat.{Described, image_format}
-use Rattle.image.specs.declared.Imaged.TheVariants.{Done, NoRoom}
+use Rattle.image.specs.declared.ImageError.TheVariants.{NoRoom}
 use Rattle.image.proofs.Images.{format-is-images}
 use Rattle.image.proofs.ImageLaws.{image-out}
 use Rattle.c_image.specs.ImageCalls.{packed_reply}
@@ -21,6 +21,7 @@ use Rattle.image_salvage.proofs.FreshLaws.{before, spelled-split}
 use Rattle.image_salvage.proofs.Keeps.{place-ends, KeepsRuns, KeepsOf, keeps-every-run}
 use Rattle.c_salvage.specs.SalvageCalls.{report_bytes, packed_salvage, HostSalvaged, salvaged_out, shown_salvage, host_salvage}
 use Rattle.c_salvage.specs.Theorems.{reported, ReportIsReadBack}
+use Rattle.image.specs.Answers.{image_done, image_reply}
 use Rattle.c_salvage.proofs.Packing.{image-small, place-small}
 
 -- ---- how many runs there can be
@@ -87,7 +88,7 @@ report-is-read-back image room report b = go (eqb (length report) report_bytes) 
 
     -- three numbers that are written
     three : length report ≡ report_bytes → (k : KeptPart) → kept_in image ≡ some k → (size : ℕ) (left : List ℕ)
-        → Reads (put_numbers (length k.body ∷ k.announced ∷ place_in image ∷ []) report) (salvaged Done (length k.body) k.announced (place_in image) size left)
+        → Reads (put_numbers (length k.body ∷ k.announced ∷ place_in image ∷ []) report) (salvaged image_done (length k.body) k.announced (place_in image) size left)
     three l k e size left =
         let n = runs-small image b k e in
         let ns : List ℕ = length k.body ∷ k.announced ∷ place_in image ∷ [] in
@@ -103,7 +104,7 @@ report-is-read-back image room report b = go (eqb (length report) report_bytes) 
         fresh = spelled k.header k.body
 
         left : Bool → SalvageOutcome
-        left t = cond t (salvaged Done (length k.body) k.announced (place_in image) (length fresh) (fresh ++ drop (length fresh) room)) (salvaged NoRoom 0 0 (place_in image) 0 room)
+        left t = cond t (salvaged image_done (length k.body) k.announced (place_in image) (length fresh) (fresh ++ drop (length fresh) room)) (salvaged (image_reply NoRoom) 0 0 (place_in image) 0 room)
 
         by : (t : Bool) → (shown_salvage report (left t)).result % 2 ^ 16 ≡ 0 → Reads (shown_salvage report (left t)).report (left t)
         by true h = three (eqb-true (length report) report_bytes e) k f (length fresh) (fresh ++ drop (length fresh) room)

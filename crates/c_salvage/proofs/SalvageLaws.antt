@@ -1,56 +1,51 @@
 -- What each return of the function has to show.
-use Rattle.numbers.proofs.Kit.{◌≡◌, refl, sym, ap, ap₂, ◌∙◌, Bool, true, false, cond, List, [], ◌∷◌, ℕ, ◌+◌, ◌*◌, ◌%◌, ◌^◌, arith, eqb, length, eq-eqb}
+use Rattle.std.specs.Prelude.{Result, Ok, Err}
+use Rattle.numbers.proofs.Kit.{◌≡◌, refl, sym, ap, ap₂, ◌∙◌, Bool, cond, List, [], ◌∷◌, ℕ, ◌+◌, ◌*◌, ◌%◌, ◌^◌, arith, length, eq-eqb}
 use Rattle.numbers.proofs.Kit.{ne_eqb}
 use Rattle.c_blocks.specs.Blocks.{put_numbers}
-use Rattle.image.specs.declared.Imaged.{Imaged}
-use Rattle.image.specs.declared.Imaged.TheVariants.{Done, BadArguments, NoRoom, Damaged}
-use Rattle.image.specs.Answers.{image_reply}
-use Rattle.image_check.specs.Parts.{image_done}
 use Rattle.c_image.specs.ImageCalls.{packed_reply}
 use Rattle.image_salvage.specs.declared.Salvaged.{Salvaged}
+use Rattle.image_salvage.specs.declared.SalvageError.{SalvageError}
+use Rattle.image_salvage.specs.declared.SalvageError.TheVariants as Refused
 use Rattle.image_salvage.specs.Salvage.{salvage, salvaged_as}
 use Rattle.c_salvage.specs.SalvageCalls.{report_bytes, packed_salvage, salvaged_out, shown_salvage, host_salvage}
 
-module _ (a : Imaged) (place size : ℕ) where
-  pub packs-done : a ≡ Done → size % 2 ^ 48 * 2 ^ 16 ≡ packed_salvage (image_reply a).number place size
-  unfolding packed_reply
-  packs-done e = rw e (omega arith)
+abbrev packed : SalvageError → ℕ
+packed e = let o = salvaged_as (Err e) [] in packed_salvage o.answer.number o.place o.size
 
-  pub packs-arguments : a ≡ BadArguments → 8 + place % 2 ^ 48 * 2 ^ 16 ≡ packed_salvage (image_reply a).number place size
-  unfolding packed_reply
-  packs-arguments e = rw e
+pub packs-done : (size place : ℕ) → size % 2 ^ 48 * 2 ^ 16 ≡ packed_salvage 0 place size
+unfolding packed_reply
+packs-done size place = omega arith
 
-  pub packs-room : a ≡ NoRoom → 14 + place % 2 ^ 48 * 2 ^ 16 ≡ packed_salvage (image_reply a).number place size
+module _ (e : SalvageError) (p : ℕ) where
+  pub packs-room : e ≡ Refused.NoRoom p → 14 + p % 2 ^ 48 * 2 ^ 16 ≡ packed e
   unfolding packed_reply
-  packs-room e = rw e
+  packs-room is = rw is
 
-  pub packs-place : (p : ℕ) → a ≡ Damaged p → 15 + place % 2 ^ 48 * 2 ^ 16 ≡ packed_salvage (image_reply a).number place size
+  pub packs-place : e ≡ Refused.Damaged p → 15 + p % 2 ^ 48 * 2 ^ 16 ≡ packed e
   unfolding packed_reply
-  packs-place p e = rw e
-
--- the answer's number, by whether it is done
-done-number : (a : Imaged) → eqb (image_reply a).number 0 ≡ image_done a
-done-number Done = refl
-done-number BadArguments = refl
-done-number NoRoom = refl
-done-number (Damaged p) = refl
+  packs-place is = rw is
 
 module _ (image room report : List ℕ) where
-  pub salvage-short : (r : ℕ) → ¬ (length report ≡ report_bytes) → r ≡ packed_salvage (image_reply BadArguments).number 0 0 → salvaged_out r room report ≡ host_salvage image room report
-  unfolding host_salvage
-  salvage-short r h er = rw (er, ne_eqb (length report) report_bytes h)
+  pub salvage-short : ¬ (length report ≡ report_bytes) → salvaged_out 8 room report ≡ host_salvage image room report
+  unfolding host_salvage packed_reply
+  salvage-short h = rw (ne_eqb (length report) report_bytes h)
 
-  -- by whether the salvage is done
-  module _ (s : Salvaged) (room' report' : List ℕ) (r : ℕ) (h : length report ≡ report_bytes) (e : salvaged_as s room' ≡ salvage image room) (es : r ≡ packed_salvage (image_reply s.answer).number s.place s.length) where
-    shown : (t : Bool) → image_done s.answer ≡ t → report' ≡ cond t (put_numbers (s.kept ∷ s.announced ∷ s.place ∷ []) report) report → salvaged_out r room' report' ≡ host_salvage image room report
+  module _ (room' : List ℕ) (r : ℕ) (h : length report ≡ report_bytes) where
+    shown : (reply : Result Salvaged SalvageError) → salvaged_as reply room' ≡ salvage image room
+        → shown_salvage report (salvaged_as reply room') ≡ host_salvage image room report
     unfolding host_salvage
-    shown t d er =
-        ap₂ (λ (x : ℕ) (y : List ℕ). salvaged_out x room' y) es (er ∙ ap (λ (u : Bool). cond u (put_numbers (s.kept ∷ s.announced ∷ s.place ∷ []) report) report) (sym d ∙ sym (done-number s.answer)))
-        ∙ ap (shown_salvage report) e
+    shown reply e =
+        ap (shown_salvage report) e
         ∙ ap (λ (u : Bool). cond u (shown_salvage report (salvage image room)) (salvaged_out (packed_salvage 8 0 0) room report)) (sym (eq-eqb (length report) report_bytes h))
 
-    pub salvage-refused : image_done s.answer ≡ false → report' ≡ report → salvaged_out r room' report' ≡ host_salvage image room report
-    salvage-refused d er = shown false d er
+    pub salvage-refused : (x : SalvageError) → salvaged_as (Err x) room' ≡ salvage image room → r ≡ packed x → salvaged_out r room' report ≡ host_salvage image room report
+    salvage-refused x e es = ap (λ (y : ℕ). salvaged_out y room' report) es ∙ kept x ∙ shown (Err x) e
+      where
+        kept : (x : SalvageError) → salvaged_out (packed x) room' report ≡ shown_salvage report (salvaged_as (Err x) room')
+        kept (Refused.Damaged p) = refl
+        kept (Refused.NoRoom p) = refl
 
-    pub salvage-done : image_done s.answer ≡ true → report' ≡ put_numbers (s.kept ∷ s.announced ∷ s.place ∷ []) report → salvaged_out r room' report' ≡ host_salvage image room report
-    salvage-done d er = shown true d er
+    pub salvage-done : (s : Salvaged) (report' : List ℕ) → salvaged_as (Ok s) room' ≡ salvage image room → r ≡ packed_salvage 0 s.place s.length
+        → report' ≡ put_numbers (s.kept ∷ s.announced ∷ s.place ∷ []) report → salvaged_out r room' report' ≡ host_salvage image room report
+    salvage-done s report' e es er = ap₂ (λ (y : ℕ) (z : List ℕ). salvaged_out y room' z) es er ∙ shown (Ok s) e

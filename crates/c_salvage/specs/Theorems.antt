@@ -3,9 +3,10 @@ use Rattle.std.specs.Prelude.{◌≡◌, ◌*◌, ◌%◌, ◌^◌}
 use Rattle.numbers.specs.Kit.{cond, List, ℕ, eqb, length}
 use Rattle.numbers.specs.Tile.{get_le}
 use Rattle.numbers_format.specs.Numbers.{ByteString}
-use Rattle.image.specs.declared.Imaged.TheVariants.{BadArguments}
+use Rattle.image.specs.declared.ImageError.TheVariants.{BadArguments}
 use Rattle.c_image.specs.Theorems.{PacksWhole}
 use Rattle.image_salvage.specs.Salvage.{SalvageOutcome, salvaged, salvage}
+use Rattle.image.specs.Answers.{image_reply}
 use Rattle.c_salvage.specs.SalvageCalls.{report_bytes, salvaged_out, host_salvage}
 
 -- "A refusal changes no byte of any buffer." A refusal: an answer, in bits 15..0, that is not 0
@@ -17,7 +18,7 @@ SalvageRefusalChangesNoByte = (image room report : List ℕ) → let o = host_sa
 -- is cut: for every image, room and report.
 abbrev pub SalvagePacksWhole : Type 0
 SalvagePacksWhole = (image room report : List ℕ) → ByteString image
-    → let o : SalvageOutcome = cond (eqb (length report) report_bytes) (salvage image room) (salvaged BadArguments 0 0 0 0 room) in
+    → let o : SalvageOutcome = cond (eqb (length report) report_bytes) (salvage image room) (salvaged (image_reply BadArguments) 0 0 0 0 room) in
     PacksWhole (host_salvage image room report).result (record { number = o.answer.number; place = o.place }) o.size
 
 -- "reports the runs kept, the runs announced and that place": what a host reads in the report of a call that is done, three numbers of 64 bits, low

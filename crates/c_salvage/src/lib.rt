@@ -1,38 +1,42 @@
 // Salvage as C calls it, with its report in a block of bytes. What it answers and leaves is defined in specs/.
 #![tactic(auto)]
 
-ghost use Rattle.std.specs.Prelude.{◌≡◌, [], ◌∷◌, length};
+ghost use Rattle.std.specs.Prelude.{◌≡◌, ℕ, [], ◌∷◌, length};
 ghost use Rattle.c_blocks.specs.Blocks.{put_numbers};
-ghost use Rattle.image.specs.Answers.{image_reply};
+ghost use Rattle.image_salvage.specs.Salvage.{salvaged_as};
 ghost use Rattle.c_salvage.specs.SalvageCalls.{report_bytes, packed_salvage, salvaged_out, host_salvage};
 
-use image::Imaged;
-use image_check::is_done;
-use unit_element::write8;
+use image_salvage::{SalvageError, Salvaged};
+use unit_element::Element;
 
 // The bytes of the report's block.
 pub const REPORT_BYTES: usize = 24;
 
-// An answer's number, with the length of what is done, or the place, in the bits above it.
-fn packed_salvage(answer: Imaged, place: u64, size: u64) -> u64
-    ensures { result ≡ packed_salvage (image_reply answer).number place size }
+// The number of a refusal, with the place in the bits above it.
+fn packed_error(e: SalvageError) -> u64
+    ensures { let o = salvaged_as (Err e) [] in result ≡ packed_salvage o.answer.number o.place o.size }
 {
-    match answer {
-        Imaged::Done => size % 0x1_0000_0000_0000 * 65536,
-        Imaged::BadArguments => 8 + place % 0x1_0000_0000_0000 * 65536,
-        Imaged::NoRoom => 14 + place % 0x1_0000_0000_0000 * 65536,
-        Imaged::Damaged { place: _ } => 15 + place % 0x1_0000_0000_0000 * 65536,
+    match e {
+        SalvageError::NoRoom { place } => 14 + place % 0x1_0000_0000_0000 * 65536,
+        SalvageError::Damaged { place } => 15 + place % 0x1_0000_0000_0000 * 65536,
     }
 }
 
-// The numbers of a report into its block.
-fn put_report(report: &mut [u8], kept: u64, announced: u64, place: u64)
-    requires { length report.old ≡ report_bytes }
-    ensures { report.new ≡ put_numbers (kept ∷ announced ∷ place ∷ []) report.old }
+// The length of what is done in the bits above a 0.
+fn packed_length(length: u64) -> u64
+    ensures { (place : ℕ) → result ≡ packed_salvage 0 place length }
 {
-    write8(report, 0, kept);
-    write8(report, 8, announced);
-    write8(report, 16, place);
+    length % 0x1_0000_0000_0000 * 65536
+}
+
+// The numbers of a report into its block.
+fn put_report(report: &mut [u8], salvaged: Salvaged)
+    requires { length report.old ≡ report_bytes }
+    ensures { report.new ≡ put_numbers (salvaged.kept ∷ salvaged.announced ∷ salvaged.place ∷ []) report.old }
+{
+    u64::write(report, 0, salvaged.kept);
+    u64::write(report, 8, salvaged.announced);
+    u64::write(report, 16, salvaged.place);
 }
 
 // Writes a fresh image of what is kept of one, and the report of it. Refused, it changes nothing.
@@ -40,13 +44,13 @@ pub fn salvage(image: &[u8], room: &mut [u8], report: &mut [u8]) -> u64
     ensures { salvaged_out result room.new report.new ≡ host_salvage image.now room.old report.old }
 {
     if report.len() != REPORT_BYTES {
-        return packed_salvage(Imaged::BadArguments, 0, 0);
+        return 8;
     }
-    let salvaged = image_salvage::salvage(image, room);
-    let answer = salvaged.answer;
-    if !is_done(answer) {
-        return packed_salvage(answer, salvaged.place, salvaged.length);
+    match image_salvage::salvage(image, room) {
+        Ok(salvaged) => {
+            put_report(report, salvaged);
+            packed_length(salvaged.length)
+        }
+        Err(e) => packed_error(e),
     }
-    put_report(report, salvaged.kept, salvaged.announced, salvaged.place);
-    packed_salvage(answer, salvaged.place, salvaged.length)
 }

@@ -2,19 +2,18 @@
 -- does the same on values of which only these are right, and only this one need be written back.
 use Rattle.numbers.proofs.Kit.{◌≡◌, refl, sym, ap, ap₂, ◌∙◌, subst, ◌⊎◌, inl, inr, Bool, true, false, cond, List, [], ◌∷◌, ℕ, ◌+◌, ◌*◌, ◌/◌, ◌%◌, ◌<◌}
 use Rattle.numbers.proofs.Kit.{zero-add, mod-lt, div-add-mod', arith, ℕ_discrete, eqb, length, get_or, set, replicate, length-set, get_or-set_same}
-use Rattle.numbers.proofs.Kit.{get_or-set_other, ext_get_or, eq-eqb, eqb-true, eqb-false}
+use Rattle.numbers.proofs.Kit.{get_or-set_other, ext_get_or, eq-eqb, eqb-true, eqb-false, Err}
 use Rattle.numbers.specs.Tile.{get_le, byte_of, put_le, put_row}
 use Rattle.numbers.proofs.TileLaws.{length-put_le, put_le-at, put_le-out, length-put_row, put_row-at}
 use Rattle.numbers.proofs.PutLaws.{le-byte}
 use Rattle.numbers.proofs.WordLaws.{put_row-same}
-use Rattle.machine.specs.declared.Answer.{Answer}
-use Rattle.machine.specs.declared.Answer.TheVariants.{Done, BadArguments}
+use Rattle.machine.specs.declared.Refusal.TheVariants.{BadArguments}
 use Rattle.machine.specs.declared.Wrong.TheVariants.{Opcode, Register}
 use Rattle.machine.specs.declared.Instruction.{Instruction}
 use Rattle.machine.specs.declared.Instruction.TheVariants.{Illegal, SetTypeImmediate, SetType, SetTileImmediate, SetTile, Load, Store, Multiply, Combine, Scale, ScaleImmediate, FloatMultiply, MoveOut, MoveIn}
 use Rattle.machine.specs.Tests.{every}
 use Rattle.machine.specs.declared.Reply.{Reply}
-use Rattle.machine.specs.Answers.{reply, ◌otherwise◌, verdict, is_done}
+use Rattle.machine.specs.Answers.{reply, ◌otherwise◌, verdict, is_done, Answer, Done}
 use Rattle.machine.specs.Geometry.{Range, sealed, Parameters, parameters, State, state_of, machine_after, Bench, bench_of, scalar, with_scalar}
 use Rattle.machine.specs.Setting.{chosen}
 use Rattle.machine.specs.Listing
@@ -23,7 +22,7 @@ use Rattle.machine.specs.Vectors.{Vectors, vectors_fit}
 use Rattle.machine.specs.Operation.{Operation, operation_in}
 use Rattle.machine.specs.Meanings.{state_after, memory_after, vectors_after, result_of, checks}
 use Rattle.machine.specs.Faults.{sound_bench}
-use Rattle.machine.specs.declared.Stepped.{Stepped}
+use Rattle.machine.specs.Step.{Stepped}
 use Rattle.machine.specs.Step.{VectorOutcome, beside, step_with, vector_step, vector_stepped_as, destination}
 use Rattle.machine.proofs.TestLaws.{every-each}
 use Rattle.machine.proofs.CodeLaws.{all_rows, look-up-all}
@@ -182,7 +181,7 @@ module _ (word : ℕ) (xs ys : List ℕ) (W : Vectors) (B : Bench) (tx : length 
 
   -- by whether the vector file is not bad
   abbrev either : Bool → List ℕ → VectorOutcome → VectorOutcome
-  either fit zs o = cond fit o (beside W.file (record { answer = reply BadArguments; bench = B; scalars = zs }))
+  either fit zs o = cond fit o (beside W.file (record { answer = reply (Err BadArguments); bench = B; scalars = zs }))
 
   abbrev meaning : List ℕ → Operation
   meaning zs = operation_in W M st zs (decode word)

@@ -4,14 +4,14 @@
 ghost use Rattle.std.specs.Prelude.{◌≡◌, cond, ◌*◌, ◌<◌, length, eqb};
 ghost use Rattle.numbers.specs.Tile.{put_le};
 ghost use Rattle.machine.specs.Geometry.{bench_of};
-ghost use Rattle.machine.specs.Step.{vector_stepped_as};
+ghost use Rattle.machine.specs.Step.{stepped, vector_stepped_as};
 ghost use Rattle.machine.specs.Vectors.{vectors_of};
 ghost use Rattle.unit_ranges.specs.Ranges.{seals_in};
 ghost use Rattle.c_blocks.specs.Blocks.{scalar_bytes};
 ghost use Rattle.c_scalars.specs.ScalarBlock.{step_block};
 
-use machine::{Machine, Stepped};
-use unit_element::{read8, write8};
+use machine::{Machine, Refusal};
+use unit_element::Element;
 
 // A value into its slot of the scalars' block. Slot 0 is never written.
 fn put_scalar(scalars: &mut [u8], slot: usize, value: u64)
@@ -22,7 +22,7 @@ fn put_scalar(scalars: &mut [u8], slot: usize, value: u64)
     if slot == 0 {
         return;
     }
-    write8(scalars, slot * 8, value);
+    u64::write(scalars, slot * 8, value);
 }
 
 // A step with the scalars in their block. Only the slots in the word's fields of rd, rs1 and rs2 are read out of it, and only that of
@@ -37,18 +37,18 @@ pub fn step_block(
     vectors: &mut [u8],
     group: u64,
     word: u32,
-) -> Stepped
+) -> Result<Machine, Refusal>
     requires { length scalars.old ≡ scalar_bytes }
-    ensures { vector_stepped_as result (seals_in seals.now) registers.new marks.new scalars.new memory.new vectors.new
+    ensures { vector_stepped_as (stepped m result) (seals_in seals.now) registers.new marks.new scalars.new memory.new vectors.new
         ≡ step_block word scalars.old (vectors_of vectors.old group) (bench_of m (seals_in seals.now) registers.old marks.old memory.old) }
 {
     let rd = unit_decode::low_field(word);
     let rs1 = unit_decode::middle_field(word);
     let rs2 = unit_decode::high_field(word);
     let mut values = [0u64; 32];
-    values[rd] = read8(scalars, rd * 8);
-    values[rs1] = read8(scalars, rs1 * 8);
-    values[rs2] = read8(scalars, rs2 * 8);
+    values[rd] = u64::read(scalars, rd * 8);
+    values[rs1] = u64::read(scalars, rs1 * 8);
+    values[rs2] = u64::read(scalars, rs2 * 8);
     let stepped = unit_step::step(
         m,
         seals,

@@ -1,4 +1,5 @@
 -- What each return of a start and of a step has to show.
+use Rattle.numbers.proofs.Kit.{Err}
 use mathlib.Core.Path.{◌≡◌, refl, sym, ap, ap₂, ◌∙◌, subst}
 use mathlib.Core.Bool.{Bool, true, false, cond, false≢true}
 use mathlib.Core.List.{List, []}
@@ -9,11 +10,10 @@ use lib.Dec.{leb}
 use lib.ListN.{length, replicate}
 use borrow.Author.Tests.{eq-eqb, ne_eqb, eqb-true, leb-true}
 use Rattle.machine.specs.declared.Machine.{Machine}
-use Rattle.machine.specs.declared.Answer.{Answer}
-use Rattle.machine.specs.declared.Answer.TheVariants.{Done, BadArguments, TooManySeals}
-use Rattle.machine.specs.declared.Started.{Started}
-use Rattle.machine.specs.declared.Stepped.{Stepped}
-use Rattle.machine.specs.Answers.{reply, done, is_done}
+use Rattle.machine.specs.declared.Refusal.TheVariants.{BadArguments, TooManySeals}
+use Rattle.machine.specs.Starting.{Started}
+use Rattle.machine.specs.Step.{Stepped}
+use Rattle.machine.specs.Answers.{reply, done, is_done, Answer, Done}
 use Rattle.machine.specs.Geometry.{Bench, bench_of}
 use Rattle.machine.specs.Starting.{ranges, paired, most_seals, startable, fresh_machine, no_machine, StartOutcome, start_machine, started_as}
 use Rattle.machine.proofs.StartLaws.{startable-paired, ranges-count}
@@ -31,7 +31,7 @@ use Rattle.c_step.specs.BenchCalls.{started_out, shown_start, host_start, steppe
 
 module _ (rlen mlen elen rule : ℕ) (seals machine registers marks : List ℕ) where
   -- a block of another length
-  pub start-short : (r : ℕ) → ¬ (length machine ≡ machine_bytes) → r ≡ packed (reply BadArguments)
+  pub start-short : (r : ℕ) → ¬ (length machine ≡ machine_bytes) → r ≡ packed (reply (Err BadArguments))
       → started_out r machine registers marks ≡ host_start rlen mlen elen rule seals machine registers marks
   unfolding host_start
   start-short r h er = rw (er, ne_eqb (length machine) machine_bytes h)
@@ -45,7 +45,7 @@ module _ (rlen mlen elen rule : ℕ) (seals machine registers marks : List ℕ) 
   start-shown t s M K r h e et em er =
       ap₂ (λ (r : ℕ) (M : List ℕ). started_out r M registers K) er (em ∙ written t ∙ ap (λ (t : Bool). cond t (put_seals (cond t (ranges seals) []) (put_machine s.machine machine)) machine) (sym et))
       ∙ ap (shown_start machine) e
-      ∙ ap (λ (t : Bool). cond t (shown_start machine (start_machine rlen mlen elen rule seals registers marks)) (started_out (packed (reply BadArguments)) machine registers marks))
+      ∙ ap (λ (t : Bool). cond t (shown_start machine (start_machine rlen mlen elen rule seals registers marks)) (started_out (packed (reply (Err BadArguments))) machine registers marks))
       (sym (eq-eqb (length machine) machine_bytes h))
     where
       written : (t : Bool) → cond t (put_seals (ranges seals) (put_machine s.machine machine)) machine ≡ cond t (put_seals (cond t (ranges seals) []) (put_machine s.machine machine)) machine
@@ -66,7 +66,7 @@ module _ (rlen mlen elen rule : ℕ) (seals machine registers marks : List ℕ) 
           (started_as (record { answer = a; machine = no_machine }) seals registers marks)
 
       go : (u : Bool) → startable rlen mlen elen rule seals registers marks ≡ u → (v : Bool) → leb (length (ranges seals)) most_seals ≡ v
-          → done (out (cond u (cond v Done TooManySeals) BadArguments)).answer ≡ true → (paired seals ≡ true) × (length seals ≤ 16)
+          → done (out (cond u (cond v Done (Err TooManySeals)) (Err BadArguments))).answer ≡ true → (paired seals ≡ true) × (length seals ≤ 16)
       go true f true g n =
           let p : paired seals ≡ true = startable-paired rlen mlen elen rule seals registers marks f in
           (p, omega (arith, leb-true (length (ranges seals)) 8 g, ranges-count seals, div-add-mod' (length seals) 2, eqb-true (length seals % 2) 0 p))
@@ -80,12 +80,12 @@ module _ (word group : ℕ) (machine registers marks scalars memory file : List 
   bench = bench_of (machine_of machine) (seals_in machine) registers marks memory
 
   -- a block of another length
-  pub step-short : (r : ℕ) → ¬ (length machine ≡ machine_bytes) → r ≡ packed (reply BadArguments)
+  pub step-short : (r : ℕ) → ¬ (length machine ≡ machine_bytes) → r ≡ packed (reply (Err BadArguments))
       → stepped_out r machine registers marks scalars memory file ≡ host_step word group machine registers marks scalars memory file
   unfolding host_step
   step-short r h er = rw (er, ne_eqb (length machine) machine_bytes h)
 
-  pub step-short-scalars : (r : ℕ) → length machine ≡ machine_bytes → ¬ (length scalars ≡ 256) → r ≡ packed (reply BadArguments)
+  pub step-short-scalars : (r : ℕ) → length machine ≡ machine_bytes → ¬ (length scalars ≡ 256) → r ≡ packed (reply (Err BadArguments))
       → stepped_out r machine registers marks scalars memory file ≡ host_step word group machine registers marks scalars memory file
   unfolding host_step
   step-short-scalars r h k er = rw (er, eq-eqb (length machine) machine_bytes h, ne_eqb (length scalars) 256 k)
@@ -115,7 +115,7 @@ step_keeps word machine registers marks scalars memory W m s R K S Q F en e =
 -- ---- a sealing of the host
 
 module _ (start size : ℕ) (machine registers marks : List ℕ) where
-  pub seal-short : (r : ℕ) → ¬ (length machine ≡ machine_bytes) → r ≡ packed (reply BadArguments) → sealed_out r machine registers marks ≡ host_seal start size machine registers marks
+  pub seal-short : (r : ℕ) → ¬ (length machine ≡ machine_bytes) → r ≡ packed (reply (Err BadArguments)) → sealed_out r machine registers marks ≡ host_seal start size machine registers marks
   unfolding host_seal
   seal-short r h er = rw (er, ne_eqb (length machine) machine_bytes h)
 
@@ -126,5 +126,5 @@ module _ (start size : ℕ) (machine registers marks : List ℕ) where
   seal-shown m a M r h em e er =
       ap (λ (r : ℕ). sealed_out r M registers marks) er
       ∙ ap (shown_seal registers marks) (e ∙ ap (λ (m : Machine). seal_block start size m machine registers marks) em)
-      ∙ ap (λ (t : Bool). cond t (shown_seal registers marks (seal_block start size (machine_of machine) machine registers marks)) (sealed_out (packed (reply BadArguments)) machine registers marks))
+      ∙ ap (λ (t : Bool). cond t (shown_seal registers marks (seal_block start size (machine_of machine) machine registers marks)) (sealed_out (packed (reply (Err BadArguments))) machine registers marks))
       (sym (eq-eqb (length machine) machine_bytes h))

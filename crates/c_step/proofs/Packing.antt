@@ -1,4 +1,5 @@
 -- No row and no column of a step's answer is too large for its bits in a result.
+use Rattle.numbers.proofs.Kit.{Err}
 use mathlib.Core.Path.{◌≡◌, refl}
 use mathlib.Core.Bool.{Bool, true, false, cond}
 use mathlib.Core.List.{List, [], ◌∷◌}
@@ -24,7 +25,7 @@ use Rattle.machine.specs.Faults.{sound_bench}
 use Rattle.machine.specs.Step
 use Rattle.machine.specs.Step.{beside, vectors_in, stepped_in, step_with, vector_step, checks_in, given_in, meant_in}
 use Rattle.machine.specs.Vectors.{Vectors, vectors_of, vectors_fit}
-use Rattle.machine.specs.declared.Answer.TheVariants.{BadArguments}
+use Rattle.machine.specs.declared.Refusal.TheVariants.{BadArguments}
 use Rattle.machine.specs.declared.Form.{Form}
 use Rattle.machine.specs.declared.Form.TheVariants.{Plain, Transposed}
 use Rattle.machine.proofs.TestLaws.{first-le}
@@ -48,7 +49,7 @@ whole a n s = (omega arith, omega arith, omega arith)
 
 abbrev EachSmall : List Check → Type 0
 EachSmall [] = Unit
-EachSmall (c ∷ cs) = Small (reply c.answer) × (c.holds ≡ true → EachSmall cs)
+EachSmall (c ∷ cs) = Small (reply (Err c.answer)) × (c.holds ≡ true → EachSmall cs)
 
 zeros : (◌≤◌ 0 1024) × (◌≤◌ 0 1024)
 zeros = (omega arith, omega arith)
@@ -57,7 +58,7 @@ verdict-small : (cs : List Check) → EachSmall cs → Small (reply (verdict cs)
 verdict-small [] s = zeros
 verdict-small (c ∷ cs) s = go c.holds refl (λ e. verdict-small cs (s.1 e))
   where
-    go : (t : Bool) → c.holds ≡ t → (c.holds ≡ true → Small (reply (verdict cs))) → Small (reply (cond t (verdict cs) c.answer))
+    go : (t : Bool) → c.holds ≡ t → (c.holds ≡ true → Small (reply (verdict cs))) → Small (reply (cond t (verdict cs) (Err c.answer)))
     go true e h = h e
     go false e h = s.0
 
@@ -78,7 +79,7 @@ module _ (M : Parameters) (st : State) (mem : List ℕ) (hm : st.tile_m ≤ 1024
 
   -- what a slice names lies in its tile
   slice-small : (f : Form) (start count : ℕ) (p q : ℕ → Bool) → leb (start + count) (lines_of f st) ≡ true
-      → Small (reply (unwritten_in f start (first (slice_rows f st count) p) (first (slice_cols f st count) q)))
+      → Small (reply (Err (unwritten_in f start (first (slice_rows f st count) p) (first (slice_cols f st count) q))))
   slice-small Plain start count p q h = (omega (arith, leb-true (start + count) st.tile_m h, first-le count p), omega (arith, first-le st.tile_n q))
   slice-small Transposed start count p q h = (omega (arith, first-le st.tile_m p), omega (arith, leb-true (start + count) st.tile_n h, first-le count q))
 
@@ -124,7 +125,7 @@ answer-small W M word xs B = last (vectors_fit W) (is_done (verdict cs)) (go (so
 
     last : (f t : Bool) → Small (reply (verdict cs))
         → let a = (cond f (beside (vectors_in W M (decode word) xs B) (cond t (Step.carried_in W M (decode word) xs B) (Step.refused_in W M (decode word) xs B (verdict cs))))
-        (beside W.file (Step.refused_in W M (decode word) xs B BadArguments))).answer in (a.number < 2 ^ 16) × Small a
+        (beside W.file (Step.refused_in W M (decode word) xs B (Err BadArguments)))).answer in (a.number < 2 ^ 16) × Small a
     last true true h = (omega arith, zeros)
     last true false h = (number_small (verdict cs), h)
     last false t h = (omega arith, zeros)

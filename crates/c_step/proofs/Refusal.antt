@@ -1,14 +1,14 @@
 -- A refusal changes no byte of any buffer.
+use Rattle.numbers.proofs.Kit.{Err}
 use mathlib.Core.Path.{◌≡◌, refl, ap}
 use mathlib.Core.Bool.{Bool, true, false, cond}
 use mathlib.Core.List.{List, [], ◌∷◌}
 use Prim.Native.Nat.{ℕ}
 use lib.ListN.{length, replicate}
 use lib.Dec.{eqb, leb, ltb}
-use Rattle.machine.specs.declared.Answer.TheVariants.{Done, BadArguments, TooManySeals}
-use Rattle.machine.specs.declared.Answer.{Answer}
+use Rattle.machine.specs.declared.Refusal.TheVariants.{BadArguments, TooManySeals}
 use Rattle.machine.specs.Tests.{every}
-use Rattle.machine.specs.Answers.{reply, done, is_done, verdict}
+use Rattle.machine.specs.Answers.{reply, done, is_done, verdict, Done, Answer}
 use Rattle.machine.specs.Geometry.{Bench, bench_of}
 use Rattle.machine.specs.Setting.{chosen}
 use Rattle.machine.specs.Starting.{seal_ends, ranges, most_seals, startable, StartOutcome, started_as, start_machine, fresh_machine, no_machine}
@@ -18,7 +18,7 @@ use Rattle.machine.specs.Listing.{decode}
 use Rattle.machine.specs.Vectors.{Vectors, vectors_of}
 use Rattle.machine.specs.Step.{VectorOutcome, vector_step}
 use Rattle.machine.proofs.Stores.{accepted-with}
-use Rattle.machine.proofs.Refusal.{step-refusal-changes-nothing}
+use Rattle.machine.proofs.Refused.{step-refusal-changes-nothing}
 use Rattle.unit_ranges.specs.Ranges.{seals_in, put_seals}
 use Rattle.unit_sealing.specs.SealBlock.{BlockSealed, seal_block}
 use Rattle.c_blocks.specs.Blocks.{machine_bytes, machine_of, put_machine, packed, values_of, put_values}
@@ -33,7 +33,7 @@ start-refusal rlen mlen elen rule seals machine registers marks =
     go (eqb (length machine) machine_bytes) (startable rlen mlen elen rule seals registers marks) (leb (length (ranges seals)) most_seals)
   where
     answered : Bool → Bool → Answer
-    answered u v = cond u (cond v Done TooManySeals) BadArguments
+    answered u v = cond u (cond v Done (Err TooManySeals)) (Err BadArguments)
 
     started : Answer → StartOutcome
     started a =
@@ -42,7 +42,7 @@ start-refusal rlen mlen elen rule seals machine registers marks =
         (started_as (record { answer = a; machine = no_machine }) seals registers marks)
 
     out : Bool → Bool → Bool → HostStarted
-    out t u v = cond t (shown_start machine (started (answered u v))) (started_out (packed (reply BadArguments)) machine registers marks)
+    out t u v = cond t (shown_start machine (started (answered u v))) (started_out (packed (reply (Err BadArguments))) machine registers marks)
 
     go : (t u v : Bool) → ¬ ((out t u v).result ≡ 0) → out t u v ≡ started_out (out t u v).result machine registers marks
     go true true true d = absurd (d refl)
@@ -64,7 +64,7 @@ step-refusal word group machine registers marks scalars memory file small small'
     o = vector_step word (values_of scalars) W B
 
     out : Bool → HostStepped
-    out t = cond t (shown_step machine (step_block word scalars W B)) (stepped_out (packed (reply BadArguments)) machine registers marks scalars memory file)
+    out t = cond t (shown_step machine (step_block word scalars W B)) (stepped_out (packed (reply (Err BadArguments))) machine registers marks scalars memory file)
 
     shown : (b : Bench) (xs f : List ℕ) → b ≡ B → xs ≡ values_of scalars → f ≡ file
         → stepped_out (packed o.answer) (put_machine b.machine machine) b.registers b.marks (put_values xs scalars) b.memory f
@@ -93,9 +93,9 @@ seal-refusal start size machine registers marks = go (eqb (length machine) machi
     left a = sealed_out (packed (reply a)) (cond (done (reply a)) (put_seals (cond (is_done a) (with_seal start size B) B).seals machine) machine) registers marks
 
     out : Bool → HostSealed
-    out t = cond t (left (verdict (seal_checks start size B))) (sealed_out (packed (reply BadArguments)) machine registers marks)
+    out t = cond t (left (verdict (seal_checks start size B))) (sealed_out (packed (reply (Err BadArguments))) machine registers marks)
 
-    refused : (s e f : Bool) → let a : Answer = cond s (cond e (cond f Done TooManySeals) BadArguments) BadArguments in
+    refused : (s e f : Bool) → let a : Answer = cond s (cond e (cond f Done (Err TooManySeals)) (Err BadArguments)) (Err BadArguments) in
         ¬ ((left a).result ≡ 0) → left a ≡ sealed_out (left a).result machine registers marks
     refused true true true d = absurd (d refl)
     refused true true false d = refl

@@ -1,6 +1,7 @@
 -- What a start of a machine, a step and the sealing of a range by C answer and leave (include/bodlarina.h).
+use Rattle.numbers.specs.Kit.{Err}
 use Rattle.std.specs.Prelude.{cond, List, [], ◌∷◌, ℕ, length, eqb}
-use Rattle.machine.specs.declared.Answer.TheVariants.{BadArguments}
+use Rattle.machine.specs.declared.Refusal.TheVariants.{BadArguments}
 use Rattle.machine.specs.Tests.{every}
 use Rattle.machine.specs.Answers.{reply, done}
 use Rattle.machine.specs.Geometry.{bench_of}
@@ -34,7 +35,7 @@ unfoldable pub host_start : (rlen mlen elen rule : ℕ) → (seals machine regis
 host_start rlen mlen elen rule seals machine registers marks =
     cond (eqb (length machine) machine_bytes)
     (shown_start machine (start_machine rlen mlen elen rule seals registers marks))
-    (started_out (packed (reply BadArguments)) machine registers marks)
+    (started_out (packed (reply (Err BadArguments))) machine registers marks)
 
 -- ---- a step
 
@@ -69,7 +70,7 @@ unfoldable pub host_step : (word group : ℕ) → (machine registers marks scala
 host_step word group machine registers marks scalars memory file =
     cond (every (eqb (length machine) machine_bytes ∷ eqb (length scalars) scalar_bytes ∷ []))
     (shown_step machine (step_block word scalars (vectors_of file group) (bench_of (machine_of machine) (seals_in machine) registers marks memory)))
-    (stepped_out (packed (reply BadArguments)) machine registers marks scalars memory file)
+    (stepped_out (packed (reply (Err BadArguments))) machine registers marks scalars memory file)
 
 -- ---- sealing a range
 
@@ -91,4 +92,4 @@ unfoldable pub host_seal : (start size : ℕ) → (machine registers marks : Lis
 host_seal start size machine registers marks =
     cond (eqb (length machine) machine_bytes)
     (shown_seal registers marks (seal_block start size (machine_of machine) machine registers marks))
-    (sealed_out (packed (reply BadArguments)) machine registers marks)
+    (sealed_out (packed (reply (Err BadArguments))) machine registers marks)

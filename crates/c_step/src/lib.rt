@@ -5,7 +5,7 @@ ghost use Rattle.std.specs.Prelude.{◌≡◌};
 ghost use Rattle.c_step.specs.BenchCalls.{started_out, host_start, stepped_out, host_step, sealed_out, host_seal};
 
 use c_blocks::{MACHINE_BYTES, machine_of, packed, put_machine, put_seals, put_state};
-use machine::Answer;
+use machine::Refusal;
 
 // Starts a machine of this ELEN and rule on the lent register bytes and marks, and writes its numbers into the machine block.
 pub fn start(
@@ -22,17 +22,16 @@ pub fn start(
         ≡ host_start rlen mlen elen rule seals.now machine.old registers.now marks.old }
 {
     if machine.len() != MACHINE_BYTES {
-        return packed(Answer::BadArguments);
+        return packed(Err(Refusal::BadArguments));
     }
-    let started = unit_start::start(rlen, mlen, elen, rule, seals, registers, marks);
-    let answer = started.answer;
-    if !unit_answers::is_done(answer) {
-        return packed(answer);
+    match unit_start::start(rlen, mlen, elen, rule, seals, registers, marks) {
+        Ok(started) => {
+            put_machine(machine, started);
+            put_seals(machine, seals);
+            packed(Ok(()))
+        }
+        Err(refusal) => packed(Err(refusal)),
     }
-    let numbers = started.machine;
-    put_machine(machine, numbers);
-    put_seals(machine, seals);
-    packed(answer)
 }
 
 // Steps one instruction word, beside a vector file with a group size.
@@ -50,19 +49,21 @@ pub fn step(
         ≡ host_step word group machine.old registers.old marks.old scalars.old memory.old vectors.old }
 {
     if machine.len() != MACHINE_BYTES {
-        return packed(Answer::BadArguments);
+        return packed(Err(Refusal::BadArguments));
     }
     if scalars.len() != 256 {
-        return packed(Answer::BadArguments);
+        return packed(Err(Refusal::BadArguments));
     }
     let m = machine_of(machine);
-    let stepped = c_scalars::step_block(
+    match c_scalars::step_block(
         m, machine, registers, marks, scalars, memory, vectors, group, word,
-    );
-    let next = stepped.machine;
-    put_state(machine, next);
-    let answer = stepped.answer;
-    packed(answer)
+    ) {
+        Ok(next) => {
+            put_state(machine, next);
+            packed(Ok(()))
+        }
+        Err(refusal) => packed(Err(refusal)),
+    }
 }
 
 // Seals one more range of memory.
@@ -71,7 +72,7 @@ pub fn seal(start: u64, length: u64, machine: &mut [u8], registers: &[u8], marks
         ≡ host_seal start length machine.old registers.now marks.now }
 {
     if machine.len() != MACHINE_BYTES {
-        return packed(Answer::BadArguments);
+        return packed(Err(Refusal::BadArguments));
     }
     let m = machine_of(machine);
     let answer = unit_sealing::seal(start, length, m, machine, registers, marks);

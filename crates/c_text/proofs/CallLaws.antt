@@ -8,9 +8,9 @@ use Rattle.machine.proofs.TestLaws.{false-true}
 use Rattle.numbers_format.specs.Parser.{Parsed}
 use Rattle.numbers_format.specs.Parser.Parsed.{whole, stopped}
 use Rattle.text_lines.specs.Parts.{Wrote}
-use Rattle.text_assembly.specs.declared.Texted.{Texted}
-use Rattle.text_assembly.specs.declared.Texted.TheVariants.{Done, NoLine, BadArguments, NoRoom, BadLine}
-use Rattle.text_assembly.specs.Answers.{TextReply, text_reply, code_answer}
+use Rattle.std.specs.Prelude.{Ok, Err}
+use Rattle.text_assembly.specs.declared.TextError.TheVariants.{NoLine, BadArguments, NoRoom, BadLine}
+use Rattle.text_assembly.specs.Answers.{Texted, TextReply, text_reply, code_answer}
 use Rattle.text_assembly.specs.Lines.{line}
 use Rattle.text_assembly.specs.Reading.{read_line}
 use Rattle.text_assembly.specs.Theorems.{has_line, ReadRight}
@@ -31,14 +31,14 @@ unfolding packed_text
 packs-column r n c size e d z = rw (ne_eqb r.number 0 (λ k. z (e ∙ k))) (ap₂ (λ (x y : ℕ). x + y % 0x1_0000_0000_0000 * 65536) e d)
 
 pub number_small : (a : Texted) → (text_reply a).number ≤ 17
-number_small Done = omega arith
-number_small (NoLine Opcode) = omega arith
-number_small (NoLine LeftOut) = omega arith
-number_small (NoLine Unlisted) = omega arith
-number_small (NoLine Register) = omega arith
-number_small BadArguments = omega arith
-number_small NoRoom = omega arith
-number_small (BadLine column) = omega arith
+number_small (Ok tt) = omega arith
+number_small (Err (NoLine Opcode)) = omega arith
+number_small (Err (NoLine LeftOut)) = omega arith
+number_small (Err (NoLine Unlisted)) = omega arith
+number_small (Err (NoLine Register)) = omega arith
+number_small (Err BadArguments) = omega arith
+number_small (Err NoRoom) = omega arith
+number_small (Err (BadLine column)) = omega arith
 
 -- ---- how long lines are, and where they stop
 
@@ -75,7 +75,7 @@ module _ (w : ℕ) (text : List ℕ) where
       go (some s) h = absurd (false-true (sym h))
 
   pub text-long : has_line (line w) ≡ true → (n : ℕ) → n ≡ length (line_text (line w)) → length text < n → (left : List ℕ)
-      → left ≡ cond (leb n (length text)) (line_text (line w) ++ drop n text) text → (r : ℕ) → r ≡ packed_text (text_reply NoRoom) 0 → text_out r left ≡ host_word_text w text
+      → left ≡ cond (leb n (length text)) (line_text (line w) ++ drop n text) text → (r : ℕ) → r ≡ packed_text (text_reply (Err NoRoom)) 0 → text_out r left ≡ host_word_text w text
   unfolding host_word_text
   text-long h n e l left k r q = go (line w) h e k
     where
@@ -89,7 +89,7 @@ module _ (w : ℕ) (text : List ℕ) where
           rw g (ap₂ text_out q same)
 
   pub text-done : has_line (line w) ≡ true → (n : ℕ) → n ≡ length (line_text (line w)) → n ≤ length text → (left : List ℕ)
-      → left ≡ cond (leb n (length text)) (line_text (line w) ++ drop n text) text → (r : ℕ) → r ≡ packed_text (text_reply Done) n → text_out r left ≡ host_word_text w text
+      → left ≡ cond (leb n (length text)) (line_text (line w) ++ drop n text) text → (r : ℕ) → r ≡ packed_text (text_reply (Ok tt)) n → text_out r left ≡ host_word_text w text
   unfolding host_word_text
   text-done h n e l left k r q = go (line w) h e k
     where
@@ -100,19 +100,19 @@ module _ (w : ℕ) (text : List ℕ) where
           let f : leb n (length text) ≡ true = le-leb n (length text) l in
           let g : leb (length s) (length text) ≡ true = ap (λ (z : ℕ). leb z (length text)) (sym e) ∙ f in
           let same : left ≡ s ++ drop (length s) text = k ∙ ap (λ (b : Bool). cond b (s ++ drop n text) text) f ∙ ap (λ (z : ℕ). s ++ drop z text) e in
-          rw g (ap₂ text_out (q ∙ ap (packed_text (text_reply Done)) e) same)
+          rw g (ap₂ text_out (q ∙ ap (packed_text (text_reply (Ok tt))) e) same)
 
 -- ---- the word of a line
 
 module _ (text word : List ℕ) where
-  pub word-refused : ¬ (length word ≡ 8) → (r : ℕ) → r ≡ packed_text (text_reply BadArguments) 0 → word_left r word ≡ host_text_word text word
+  pub word-refused : ¬ (length word ≡ 8) → (r : ℕ) → r ≡ packed_text (text_reply (Err BadArguments)) 0 → word_left r word ≡ host_text_word text word
   unfolding host_text_word
   word-refused h r e = rw (ne_eqb (length word) 8 h) (ap (λ (z : ℕ). word_left z word) e)
 
-  pub word_read : length word ≡ 8 → (w : ℕ) → read_line text ≡ whole w → (left : List ℕ) → left ≡ put_le 0 8 w word → (r : ℕ) → r ≡ packed_text (text_reply Done) 0 → word_left r left ≡ host_text_word text word
+  pub word_read : length word ≡ 8 → (w : ℕ) → read_line text ≡ whole w → (left : List ℕ) → left ≡ put_le 0 8 w word → (r : ℕ) → r ≡ packed_text (text_reply (Ok tt)) 0 → word_left r left ≡ host_text_word text word
   unfolding host_text_word
   word_read h w e left k r q = rw (eq-eqb (length word) 8 h, e) (ap₂ word_left q k)
 
-  pub word-bad : length word ≡ 8 → (p : ℕ) → read_line text ≡ stopped p → (r : ℕ) → r ≡ packed_text (text_reply (BadLine (p + 1))) 0 → word_left r word ≡ host_text_word text word
+  pub word-bad : length word ≡ 8 → (p : ℕ) → read_line text ≡ stopped p → (r : ℕ) → r ≡ packed_text (text_reply (Err (BadLine (p + 1)))) 0 → word_left r word ≡ host_text_word text word
   unfolding host_text_word
-  word-bad h p e r q = rw (eq-eqb (length word) 8 h, e) (ap (λ (z : ℕ). word_left z word) (q ∙ ap (λ (z : ℕ). packed_text (text_reply (BadLine z)) 0) (add-one p)))
+  word-bad h p e r q = rw (eq-eqb (length word) 8 h, e) (ap (λ (z : ℕ). word_left z word) (q ∙ ap (λ (z : ℕ). packed_text (text_reply (Err (BadLine z))) 0) (add-one p)))

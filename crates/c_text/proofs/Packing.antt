@@ -5,9 +5,9 @@ use Rattle.machine.specs.declared.Instruction.TheVariants.{Illegal, SetTypeImmed
 use Rattle.machine.specs.Listing.{decode}
 use Rattle.numbers_format.specs.Parser.{Parsed}
 use Rattle.numbers_format.specs.Parser.Parsed.{whole, stopped}
-use Rattle.text_assembly.specs.declared.Texted.{Texted}
-use Rattle.text_assembly.specs.declared.Texted.TheVariants.{Done, BadArguments, NoRoom, BadLine}
-use Rattle.text_assembly.specs.Answers.{text_reply, code_answer}
+use Rattle.std.specs.Prelude.{Ok, Err}
+use Rattle.text_assembly.specs.declared.TextError.TheVariants.{BadArguments, NoRoom, BadLine}
+use Rattle.text_assembly.specs.Answers.{Texted, text_reply, code_answer}
 use Rattle.text_assembly.specs.Lines.{line}
 use Rattle.text_assembly.specs.Reading.{read_line}
 use Rattle.text_assembly.proofs.SizeLaws.{line-size}
@@ -48,17 +48,17 @@ word-text-packs word text b = go (line word) refl
     go (some s) e = at (leb (length s) (length text))
       where
         both : Bool → Lined
-        both t = cond t (lined Done (length s) (s ++ drop (length s) text)) (lined NoRoom 0 text)
+        both t = cond t (lined (Ok tt) (length s) (s ++ drop (length s) text)) (lined (Err NoRoom) 0 text)
 
         at : (t : Bool) → PacksWhole (packed_text (both t).answer (both t).size) (both t).answer (both t).size
-        at true = packs Done (length s) (line-size word s (b, e)) (omega arith)
-        at false = packs NoRoom 0 (omega arith) (omega arith)
+        at true = packs (Ok tt) (length s) (line-size word s (b, e)) (omega arith)
+        at false = packs (Err NoRoom) 0 (omega arith) (omega arith)
 
 pub text-word-packs : TextWordPacksWhole
 unfolding host_text_word
 text-word-packs text word = go (eqb (length word) word_bytes) (read_line text) refl
   where
-    go : (t : Bool) (x : Parsed ℕ) → read_line text ≡ x → PacksWhole (cond t (word_as x word) (word_out BadArguments word)).result (text_reply (cond t (read_answer x) BadArguments)) 0
-    go false x e = packs BadArguments 0 (omega arith) (omega arith)
-    go true (whole w) e = packs Done 0 (omega arith) (omega arith)
-    go true (stopped p) e = packs (BadLine (suc p)) 0 (omega arith) (omega (arith, stop-short text p e))
+    go : (t : Bool) (x : Parsed ℕ) → read_line text ≡ x → PacksWhole (cond t (word_as x word) (word_out (Err BadArguments) word)).result (text_reply (cond t (read_answer x) (Err BadArguments))) 0
+    go false x e = packs (Err BadArguments) 0 (omega arith) (omega arith)
+    go true (whole w) e = packs (Ok tt) 0 (omega arith) (omega arith)
+    go true (stopped p) e = packs (Err (BadLine (suc p))) 0 (omega arith) (omega (arith, stop-short text p e))

@@ -2,7 +2,8 @@
 use Rattle.numbers.proofs.Kit.{◌≡◌, refl, Bool, true, false, cond, List, ◌++◌, Option, none, some, ℕ, ◌%◌, ◌^◌, arith, eqb, leb, length, drop}
 use Rattle.numbers_format.specs.Parser.{Parsed}
 use Rattle.numbers_format.specs.Parser.Parsed.{whole, stopped}
-use Rattle.text_assembly.specs.declared.Texted.TheVariants.{Done, BadArguments, NoRoom}
+use Rattle.std.specs.Prelude.{Ok, Err}
+use Rattle.text_assembly.specs.declared.TextError.TheVariants.{BadArguments, NoRoom}
 use Rattle.text_assembly.specs.Answers.{text_reply}
 use Rattle.text_assembly.specs.Lines.{line}
 use Rattle.text_assembly.specs.Reading.{read_line}
@@ -10,7 +11,7 @@ use Rattle.c_text.specs.TextCalls.{packed_text, Lined, lined, lined_as, HostText
 use Rattle.c_text.specs.Theorems.{WordTextRefusalChangesNoByte, TextWordRefusalChangesNoByte}
 
 -- answer 0 packs as 0 in bits 15..0
-packs-nought : (size : ℕ) → packed_text (text_reply Done) size % 2 ^ 16 ≡ 0
+packs-nought : (size : ℕ) → packed_text (text_reply (Ok tt)) size % 2 ^ 16 ≡ 0
 unfolding packed_text
 packs-nought size = omega arith
 
@@ -26,7 +27,7 @@ word-text-refusal word text = go (line word)
     go (some s) h = at (leb (length s) (length text)) h
       where
         both : Bool → Lined
-        both t = cond t (lined Done (length s) (s ++ drop (length s) text)) (lined NoRoom 0 text)
+        both t = cond t (lined (Ok tt) (length s) (s ++ drop (length s) text)) (lined (Err NoRoom) 0 text)
 
         at : (t : Bool) → ¬ ((out (both t)).result % 2 ^ 16 ≡ 0) → out (both t) ≡ text_out (out (both t)).result text
         at true h = absurd (h (packs-nought (length s)))
@@ -37,7 +38,7 @@ unfolding host_text_word
 text-word-refusal text word = go (eqb (length word) word_bytes) (read_line text)
   where
     out : Bool → Parsed ℕ → HostWord
-    out t x = cond t (word_as x word) (word_out BadArguments word)
+    out t x = cond t (word_as x word) (word_out (Err BadArguments) word)
 
     go : (t : Bool) (x : Parsed ℕ) → ¬ ((out t x).result % 2 ^ 16 ≡ 0) → out t x ≡ word_left (out t x).result word
     go false x h = refl

@@ -3,9 +3,9 @@ use Rattle.std.specs.Prelude.{◌≡◌, ◌/◌, ◌%◌, ◌^◌, ◌<◌}
 use Rattle.numbers.specs.Kit.{cond, List, ℕ, suc, eqb, length}
 use Rattle.numbers_format.specs.Parser.{Parsed}
 use Rattle.numbers_format.specs.Parser.Parsed.{whole, stopped}
-use Rattle.text_assembly.specs.declared.Texted.{Texted}
-use Rattle.text_assembly.specs.declared.Texted.TheVariants.{Done, BadArguments, BadLine}
-use Rattle.text_assembly.specs.Answers.{TextReply, text_reply}
+use Rattle.std.specs.Prelude.{Ok, Err}
+use Rattle.text_assembly.specs.declared.TextError.TheVariants.{BadArguments, BadLine}
+use Rattle.text_assembly.specs.Answers.{Texted, TextReply, text_reply}
 use Rattle.text_assembly.specs.Lines.{line}
 use Rattle.text_assembly.specs.Reading.{read_line}
 use Rattle.c_text.specs.TextCalls.{Lined, lined_as, text_out, host_word_text, word_bytes, word_left, host_text_word}
@@ -33,9 +33,9 @@ WordTextPacksWhole = (word : ℕ) (text : List ℕ) → word < 2 ^ 32
 
 -- the answer to a text
 abbrev pub read_answer : Parsed ℕ → Texted
-read_answer (whole w) = Done
-read_answer (stopped place) = BadLine (suc place)
+read_answer (whole w) = Ok tt
+read_answer (stopped place) = Err (BadLine (suc place))
 
 abbrev pub TextWordPacksWhole : Type 0
 TextWordPacksWhole = (text word : List ℕ)
-    → PacksWhole (host_text_word text word).result (text_reply (cond (eqb (length word) word_bytes) (read_answer (read_line text)) BadArguments)) 0
+    → PacksWhole (host_text_word text word).result (text_reply (cond (eqb (length word) word_bytes) (read_answer (read_line text)) (Err BadArguments))) 0

@@ -3,27 +3,23 @@
 
 ghost use Rattle.std.specs.Prelude.{◌≡◌, true, cond, ◌++◌, leb, length, drop};
 ghost use Rattle.unit_table.specs.Table.{entry_of};
-ghost use Rattle.text_assembly.specs.Answers.{text_reply};
 ghost use Rattle.text_assembly.specs.Lines.{line};
 ghost use Rattle.text_assembly.specs.Theorems.{has_line};
 ghost use Rattle.text_write.specs.Parts.{line_text};
-ghost use Rattle.c_text.specs.TextCalls.{packed_text, text_out, host_word_text, word_left, host_text_word};
+ghost use Rattle.c_text.specs.TextCalls.{packed_result, text_out, host_word_text, word_left, host_text_word};
 
-use text_answers::{answer_column, answer_number, code_answer, number_of};
-use text_assembly::Texted;
-use text_read::Line;
-use text_write::{INDEX, ROWS};
-use unit_element::write8;
+use text_answers::{code_answer, error_column, error_number, number_of};
+use text_assembly::TextError;
+use unit_element::Element;
 
-// An answer's number, with the length of what is written, or the column that it names, in the bits above it.
-fn packed_text(answer: Texted, size: u64) -> u64
-    ensures { result ≡ packed_text (text_reply answer) size }
+// The length of what is written, above a zero; or an error's number, with the column that it names in the bits above.
+fn packed_text(found: Result<usize, TextError>) -> u64
+    ensures { result ≡ packed_result found }
 {
-    let number = answer_number(answer);
-    if number == 0 {
-        return size % 0x1_0000_0000_0000 * 65536;
+    match found {
+        Ok(size) => size as u64 % 0x1_0000_0000_0000 * 65536,
+        Err(error) => error_number(error) + error_column(error) % 0x1_0000_0000_0000 * 65536,
     }
-    number + answer_column(answer) % 0x1_0000_0000_0000 * 65536
 }
 
 // Writes the line of a word that has one to the front of the text, where it fits; returns its length.
@@ -32,10 +28,8 @@ fn write_line(word: u32, number: u8, text: &mut [u8]) -> usize
     ensures value { result ≡ length (line_text (line word)) }
     ensures text_after { text.new ≡ cond (leb result (length text.old)) (line_text (line word) ++ drop result text.old) text.old }
 {
-    let rows = ROWS;
-    let index = INDEX;
     let mut own = [0u8; 32];
-    let size = text_write::put_line(&mut own, 0, &rows, &index, number, word);
+    let size = text_write::put_line(&mut own, 0, number, word);
     if text.len() < size {
         return size;
     }
@@ -47,16 +41,18 @@ pub fn word_text(word: u32, text: &mut [u8]) -> u64
     ensures { text_out result text.new ≡ host_word_text word text.old }
 {
     let number = number_of(word);
-    let answer = code_answer(word, number);
-    if answer_number(answer) != 0 {
-        return packed_text(answer, 0);
+    match code_answer(word, number) {
+        Ok(()) => {
+            let room = text.len();
+            let size = write_line(word, number, text);
+            if room < size {
+                packed_text(Err(TextError::NoRoom))
+            } else {
+                packed_text(Ok(size))
+            }
+        }
+        Err(error) => packed_text(Err(error)),
     }
-    let room = text.len();
-    let size = write_line(word, number, text);
-    if room < size {
-        return packed_text(Texted::NoRoom, 0);
-    }
-    packed_text(Texted::Done, size as u64)
 }
 
 // The word of a line, as a number of 64 bits.
@@ -64,22 +60,15 @@ pub fn text_word(text: &[u8], word: &mut [u8]) -> u64
     ensures { word_left result word.new ≡ host_text_word text.now word.old }
 {
     if word.len() != 8 {
-        return packed_text(Texted::BadArguments, 0);
+        return packed_text(Err(TextError::BadArguments));
     }
-    let rows = ROWS;
-    let index = INDEX;
-    match text_read::read_line(text, &rows, &index) {
-        Line::Word { word: value } => {
-            write8(word, 0, value);
-            return packed_text(Texted::Done, 0);
+    match text_read::read_line(text) {
+        Ok(value) => {
+            u64::write(word, 0, value);
+            packed_text(Ok(0))
         }
-        Line::Bad { place } => {
-            return packed_text(
-                Texted::BadLine {
-                    column: place as u64 + 1,
-                },
-                0,
-            );
-        }
+        Err(fault) => packed_text(Err(TextError::BadLine {
+            column: fault.place as u64 + 1,
+        })),
     }
 }

@@ -1,6 +1,6 @@
 -- A refusal changes no byte of any buffer.
-use Rattle.numbers.proofs.Kit.{◌≡◌, refl, ap, ap₂, ◌∙◌, Bool, true, false, cond, List, [], ◌∷◌, ℕ, zero, suc, arith, eqb, length}
-use Rattle.machine.specs.declared.Answer.TheVariants.{BadArguments}
+use Rattle.numbers.proofs.Kit.{◌≡◌, refl, ap, ap₂, ◌∙◌, Bool, true, false, cond, List, [], ◌∷◌, ℕ, zero, suc, arith, eqb, length, Err}
+use Rattle.machine.specs.declared.Refusal.TheVariants.{BadArguments}
 use Rattle.machine.specs.Tests.{every}
 use Rattle.machine.specs.Answers.{reply, done}
 use Rattle.machine.specs.Geometry.{Bench, bench_of}
@@ -40,7 +40,7 @@ turn-refusal run machine registers marks memory small small' = go (turn_blocks r
     r = held_running run machine registers marks memory
 
     out : Bool → HostTurned
-    out t = cond t (shown_turn run machine (turn_outcome chosen r)) (turned_out (packed (reply BadArguments)) run machine registers marks memory)
+    out t = cond t (shown_turn run machine (turn_outcome chosen r)) (turned_out (packed (reply (Err BadArguments))) run machine registers marks memory)
 
     go : (t : Bool) → turn_blocks run machine ≡ t → ¬ ((out t).result ≡ 0) → out t ≡ turned_out (out t).result run machine registers marks memory
     go true h d =
@@ -84,7 +84,7 @@ run-refusal P machine registers marks memory steps = go (every (eqb (length mach
     B = bench_of (machine_of machine) (seals_in machine) registers marks memory
 
     out : Bool → HostRan
-    out t = cond t (shown_run machine steps (whole chosen P B)) (ran_out (packed (reply BadArguments)) machine registers marks memory steps)
+    out t = cond t (shown_run machine steps (whole chosen P B)) (ran_out (packed (reply (Err BadArguments))) machine registers marks memory steps)
 
     go : (t : Bool) → ¬ ((out t).result ≡ 0) → out t ≡ ran_out (out t).result machine registers marks memory steps
     go true d =

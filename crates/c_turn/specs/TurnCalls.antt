@@ -1,7 +1,7 @@
 -- What the calls of C that take turns of a run, and that of a whole run, answer and leave (include/bodlarina.h).
 use Rattle.std.specs.Prelude.{◌∷◌}
-use Rattle.numbers.specs.Kit.{Bool, cond, List, [], ℕ, eqb, length}
-use Rattle.machine.specs.declared.Answer.TheVariants.{BadArguments}
+use Rattle.numbers.specs.Kit.{Bool, cond, List, [], ℕ, eqb, length, Err}
+use Rattle.machine.specs.declared.Refusal.TheVariants.{BadArguments}
 use Rattle.machine.specs.Tests.{every}
 use Rattle.machine.specs.Answers.{reply, done}
 use Rattle.machine.specs.Geometry.{bench_of}
@@ -54,7 +54,7 @@ unfoldable pub host_turn : (run machine registers marks memory : List ℕ) → H
 host_turn run machine registers marks memory =
     cond (turn_blocks run machine)
     (shown_turn run machine (turn_outcome chosen (held_running run machine registers marks memory)))
-    (turned_out (packed (reply BadArguments)) run machine registers marks memory)
+    (turned_out (packed (reply (Err BadArguments))) run machine registers marks memory)
 
 -- turns are counted, not answered: blocks that are refused take none
 abbrev pub shown_turns : (run machine : List ℕ) → TurnsOutcome → HostTurned
@@ -102,4 +102,4 @@ unfoldable pub host_run : Plan → (machine registers marks memory steps : List 
 host_run P machine registers marks memory steps =
     cond (every (eqb (length machine) machine_bytes ∷ eqb (length steps) count_bytes ∷ []))
     (shown_run machine steps (whole chosen P (bench_of (machine_of machine) (seals_in machine) registers marks memory)))
-    (ran_out (packed (reply BadArguments)) machine registers marks memory steps)
+    (ran_out (packed (reply (Err BadArguments))) machine registers marks memory steps)

@@ -6,11 +6,12 @@ ghost use Rattle.c_turn.specs.TurnCalls.{turned_out, host_turn, host_turns, ran_
 
 use c_blocks::{MACHINE_BYTES, machine_of, packed, put_machine, put_state};
 use c_run_blocks::{is_fit, put_place, put_run, run_of};
-use machine::Answer;
+use machine::Refusal;
 use run::Plan;
-use unit_element::write8;
+use unit_element::Element;
 
 // Takes one turn of a run.
+#[tactic(auto, unfolding(crate::specs::TurnCalls::host_turn), using(c_run_blocks::proofs::RunBlockLaws::fit_length))]
 pub fn turn(
     run: &mut [u8],
     machine: &mut [u8],
@@ -22,23 +23,25 @@ pub fn turn(
         ≡ host_turn run.old machine.old registers.old marks.old memory.old }
 {
     if !is_fit(run) {
-        return packed(Answer::BadArguments);
+        return packed(Err(Refusal::BadArguments));
     }
     if machine.len() != MACHINE_BYTES {
-        return packed(Answer::BadArguments);
+        return packed(Err(Refusal::BadArguments));
     }
     let held = run_of(run);
     let m = machine_of(machine);
-    let turned = run_turn::turn(held, m, machine, registers, marks, memory);
-    let after = turned.run;
-    put_place(run, after);
-    let next = turned.machine;
-    put_state(machine, next);
-    let answer = turned.answer;
-    packed(answer)
+    match run_turn::turn(held, m, machine, registers, marks, memory) {
+        Ok(turned) => {
+            put_place(run, turned.run);
+            put_state(machine, turned.machine);
+            packed(Ok(()))
+        }
+        Err(refusal) => packed(Err(refusal)),
+    }
 }
 
 // Takes up to so many turns of a run, and counts them.
+#[tactic(auto, unfolding(crate::specs::TurnCalls::host_turns), using(c_run_blocks::proofs::RunBlockLaws::fit_length))]
 pub fn turns(
     turns: u64,
     run: &mut [u8],
@@ -59,14 +62,13 @@ pub fn turns(
     let held = run_of(run);
     let m = machine_of(machine);
     let taken = run_turn::turns(turns, held, m, machine, registers, marks, memory);
-    let after = taken.run;
-    put_run(run, after);
-    let next = taken.machine;
-    put_machine(machine, next);
+    put_run(run, taken.run);
+    put_machine(machine, taken.machine);
     taken.count
 }
 
 // Runs C = A B on a machine, of kind 1 with A kept transposed, of kind 2 of floats, from its start to its last step.
+#[tactic(auto, unfolding(crate::specs::TurnCalls::host_run))]
 pub fn whole(
     plan: Plan,
     machine: &mut [u8],
@@ -79,19 +81,18 @@ pub fn whole(
         ≡ host_run plan machine.old registers.old marks.old memory.old steps.old }
 {
     if machine.len() != MACHINE_BYTES {
-        return packed(Answer::BadArguments);
+        return packed(Err(Refusal::BadArguments));
     }
     if steps.len() != 8 {
-        return packed(Answer::BadArguments);
+        return packed(Err(Refusal::BadArguments));
     }
     let held = machine_of(machine);
-    let finished = run_whole::whole(plan, held, machine, registers, marks, memory);
-    let answer = finished.answer;
-    if !unit_answers::is_done(answer) {
-        return packed(answer);
+    match run_whole::whole(plan, held, machine, registers, marks, memory) {
+        Ok(finished) => {
+            put_machine(machine, finished.machine);
+            u64::write(steps, 0, finished.count);
+            packed(Ok(()))
+        }
+        Err(refusal) => packed(Err(refusal)),
     }
-    let after = finished.machine;
-    put_machine(machine, after);
-    write8(steps, 0, finished.count);
-    packed(answer)
 }

@@ -1,15 +1,15 @@
 -- Whatever a host does is answered with a number of the table, and a refusal changes nothing.
+use Rattle.std.specs.Prelude.{Ok, Err}
 use Rattle.numbers.proofs.Kit.{◌≡◌, refl, sym, ap, ap₂, ◌∙◌, subst, ◌⊎◌, inl, inr, Bool, true, false, cond, List, [], ◌∷◌, ◌++◌, Option, none, some, ℕ}
 use Rattle.numbers.proofs.Kit.{zero, suc, ◌+◌, ◌≤◌, ◌<◌, eq-or-lt_of_le, eq-zero-or-pos, le_of_suc-le-suc, arith, leb, eqb, length, drop, replicate}
-use Rattle.numbers.proofs.Kit.{eqb-true, eqb-false, leb-true}
+use Rattle.numbers.proofs.Kit.{eqb-true, eqb-false, leb-true, Err}
 use Rattle.numbers.specs.Blocks.{Choice}
 use Rattle.numbers_format.specs.Parser.{Parsed, parse}
 use Rattle.numbers_format.specs.Parser.Parsed.{whole, stopped}
-use Rattle.machine.specs.declared.Answer.{Answer}
-use Rattle.machine.specs.declared.Answer.TheVariants.{Done, IllegalWord, IllegalType, BadWidth, TileTooLarge, Unwritten, OutsideMemory, SealedByte, BadArguments, Overlap, WrongOpcode, LeftOutWord, WrongRegister, RowsOverlap, TooManySeals}
+use Rattle.machine.specs.declared.Refusal.TheVariants.{IllegalWord, IllegalType, BadWidth, TileTooLarge, Unwritten, OutsideMemory, SealedByte, BadArguments, Overlap, WrongOpcode, LeftOutWord, WrongRegister, RowsOverlap, TooManySeals}
 use Rattle.machine.specs.declared.Machine.{Machine}
 use Rattle.machine.specs.declared.Reply.{Reply}
-use Rattle.machine.specs.Answers.{reply, number, done, is_done, ◌otherwise◌, verdict}
+use Rattle.machine.specs.Answers.{reply, number, done, is_done, ◌otherwise◌, verdict, Answer, Done}
 use Rattle.machine.specs.Meanings.{checks}
 use Rattle.machine.specs.Faults.{sound_bench, thirty_two}
 use Rattle.machine.specs.Geometry.{Range, sealed, Parameters, parameters, Bench, bench_of}
@@ -21,7 +21,7 @@ use Rattle.machine.specs.Listing.{decode}
 use Rattle.machine.specs.Step
 use Rattle.machine.specs.Step.{Outcome, outcome, step_by, step_with, checks_in}
 use Rattle.machine.proofs.TestLaws.{each_in, false-true}
-use Rattle.machine.proofs.Refusal.{step-refusal-changes-nothing, start-refusal-changes-nothing, seal-refusal-changes-nothing}
+use Rattle.machine.proofs.Refused.{step-refusal-changes-nothing, start-refusal-changes-nothing, seal-refusal-changes-nothing}
 use Rattle.run.specs.declared.Plan.{Plan}
 use Rattle.run.specs.declared.Run.{Run}
 use Rattle.run.specs.declared.Handed.{Handed}
@@ -34,14 +34,14 @@ use Rattle.run.specs.Acts.{Act, Session, session, act}
 use Rattle.run.proofs.HandedLaws.{ask_with, turn_with}
 use Rattle.run.proofs.RefusalLaws.{number-refused, number-done, turn-refused}
 use Rattle.run.proofs.Demand1.{run-start-changes-nothing, ask-refusal-changes-nothing, turn-refusal-changes-nothing, whole-refusal-changes-nothing}
-use Rattle.image.specs.declared.Imaged.{Imaged}
-use Rattle.image.specs.declared.Imaged.TheVariants as Imaged
-use Rattle.image.specs.Answers.{image_reply}
+use Rattle.image.specs.declared.ImageError.{ImageError}
+use Rattle.image.specs.declared.ImageError.TheVariants as Imaged
+use Rattle.image.specs.Answers.{image_reply, image_done}
 use Rattle.image.specs.Images.{image_of, sound_with, machine_from, spelled}
 use Rattle.image.specs.ImageFormat.{Described, image_format}
 use Rattle.image.specs.Writing.{size_image, size_reply, write_image, write_reply}
 use Rattle.image.specs.Cells.{over, marks_of}
-use Rattle.image.specs.Reading.{read_image, read_as, restored, cells_in, fitted}
+use Rattle.image.specs.Reading.{read_image, read_as, restored, cells_in, fitted, not_restored}
 use Rattle.image.proofs.Images.{read-refusal, write-refusal}
 use Rattle.image_salvage.specs.Salvage.{KeptPart, place_in, kept_in, salvaged, salvage_of, salvage}
 use Rattle.image_salvage.proofs.Keeps.{salvage-refusal}
@@ -53,23 +53,22 @@ use Rattle.demands.specs.Demand1.{last_answer, Answers, Counted, EveryDeedAnswer
 
 low : (a : Answer) → number a ≤ last_answer
 low Done = omega arith
-low IllegalWord = omega arith
-low IllegalType = omega arith
-low BadWidth = omega arith
-low TileTooLarge = omega arith
-low (Unwritten row column) = omega arith
-low OutsideMemory = omega arith
-low SealedByte = omega arith
-low BadArguments = omega arith
-low Overlap = omega arith
-low WrongOpcode = omega arith
-low LeftOutWord = omega arith
-low WrongRegister = omega arith
-low RowsOverlap = omega arith
-low TooManySeals = omega arith
+low (Err IllegalWord) = omega arith
+low (Err IllegalType) = omega arith
+low (Err BadWidth) = omega arith
+low (Err TileTooLarge) = omega arith
+low (Err (Unwritten row column)) = omega arith
+low (Err OutsideMemory) = omega arith
+low (Err SealedByte) = omega arith
+low (Err BadArguments) = omega arith
+low (Err Overlap) = omega arith
+low (Err WrongOpcode) = omega arith
+low (Err LeftOutWord) = omega arith
+low (Err WrongRegister) = omega arith
+low (Err RowsOverlap) = omega arith
+low (Err TooManySeals) = omega arith
 
-pub image-low : (a : Imaged) → (image_reply a).number ≤ last_answer
-image-low Imaged.Done = omega arith
+pub image-low : (a : ImageError) → (image_reply a).number ≤ last_answer
 image-low Imaged.BadArguments = omega arith
 image-low Imaged.NoRoom = omega arith
 image-low (Imaged.Damaged place) = omega arith
@@ -111,7 +110,7 @@ module _ (grant : Choice) where
   faulty-step word xs B e =
       let M = parameters grant B.machine in
       let rest : Answer = verdict ((thirty_two xs otherwise BadArguments) ∷ checks M (sealed B.seals) (Step.meant_in idle M (decode word) xs B) (Step.given_in idle M (decode word) xs B) B.memory) in
-      ap (λ (s : Bool). let v : Answer = cond s rest BadArguments in (cond (is_done v) (Step.carried_in idle M (decode word) xs B) (Step.refused_in idle M (decode word) xs B v)).answer.number) e
+      ap (λ (s : Bool). let v : Answer = cond s rest (Err BadArguments) in (cond (is_done v) (Step.carried_in idle M (decode word) xs B) (Step.refused_in idle M (decode word) xs B v)).answer.number) e
 
   faulty-turn : (r : Running) → sound_bench r.bench ≡ false → (turn grant r).answer.number ≡ 8
   faulty-turn r e = go (word_handed_out grant r.run)
@@ -189,7 +188,7 @@ module _ (grant : Choice) where
   unfolding size_image
   size_low m seals registers marks = go (sound_with m seals registers marks) (length (image_of m seals registers marks))
     where
-      go : (t : Bool) (n : ℕ) → (cond t (size_reply Imaged.Done n) (size_reply Imaged.BadArguments 0)).answer.number ≤ last_answer
+      go : (t : Bool) (n : ℕ) → (cond t (size_reply (Ok n)) (size_reply (Err Imaged.BadArguments))).answer.number ≤ last_answer
       go true n = omega arith
       go false n = omega arith
 
@@ -197,7 +196,7 @@ module _ (grant : Choice) where
   unfolding write_image
   write_low m seals registers marks room = go (sound_with m seals registers marks) (image_of m seals registers marks) (leb (length (image_of m seals registers marks)) (length room))
     where
-      go : (t : Bool) (i : List ℕ) (u : Bool) → (cond t (cond u (write_reply Imaged.Done (length i) (i ++ drop (length i) room)) (write_reply Imaged.NoRoom 0 room)) (write_reply Imaged.BadArguments 0 room)).answer.number ≤ last_answer
+      go : (t : Bool) (i : List ℕ) (u : Bool) → (cond t (cond u (write_reply (Ok (length i)) (i ++ drop (length i) room)) (write_reply (Err Imaged.NoRoom) room)) (write_reply (Err Imaged.BadArguments) room)).answer.number ≤ last_answer
       go true i true = omega arith
       go true i false = omega arith
       go false i u = omega arith
@@ -206,8 +205,8 @@ module _ (grant : Choice) where
   unfolding read_image
   read_low image registers marks = go (parse image_format image)
     where
-      fit : (d : Described) (t : Bool) → (cond t (restored Imaged.Done (machine_from d.header) d.header.seals (over (cells_in d) registers) (marks_of (cells_in d)))
-          (restored Imaged.BadArguments Starting.no_machine [] registers marks)).answer.number ≤ last_answer
+      fit : (d : Described) (t : Bool) → (cond t (restored (machine_from d.header) d.header.seals (over (cells_in d) registers) (marks_of (cells_in d)))
+          (not_restored Imaged.BadArguments registers marks)).answer.number ≤ last_answer
       fit d true = omega arith
       fit d false = omega arith
 
@@ -219,7 +218,7 @@ module _ (grant : Choice) where
   unfolding salvage
   salvage-low image room = go (place_in image) (kept_in image)
     where
-      fit : (p : ℕ) (k : KeptPart) (f : List ℕ) (t : Bool) → (cond t (salvaged Imaged.Done (length k.body) k.announced p (length f) (f ++ drop (length f) room)) (salvaged Imaged.NoRoom 0 0 p 0 room)).answer.number ≤ last_answer
+      fit : (p : ℕ) (k : KeptPart) (f : List ℕ) (t : Bool) → (cond t (salvaged image_done (length k.body) k.announced p (length f) (f ++ drop (length f) room)) (salvaged (image_reply Imaged.NoRoom) 0 0 p 0 room)).answer.number ≤ last_answer
       fit p k f true = omega arith
       fit p k f false = omega arith
 

@@ -1,7 +1,7 @@
 -- What a call of bodlarina_run delivers.
 use Rattle.numbers.proofs.Kit.{◌≡◌, refl, sym, ap, ◌∙◌, subst, Bool, true, false, cond, ◌&&◌, List, [], ◌∷◌, ℕ, ◌<◌, le_refl, eqb, length, replicate}
-use Rattle.numbers.proofs.Kit.{length-replicate, eqb-true, eqb-false, ne_eqb}
-use Rattle.machine.specs.declared.Answer.TheVariants.{BadArguments}
+use Rattle.numbers.proofs.Kit.{length-replicate, eqb-true, eqb-false, ne_eqb, Err}
+use Rattle.machine.specs.declared.Refusal.TheVariants.{BadArguments}
 use Rattle.machine.specs.Tests.{every}
 use Rattle.machine.specs.Answers.{reply}
 use Rattle.machine.specs.Setting.{chosen}
@@ -77,7 +77,7 @@ whatever-run P b d = record {
 other-count : (P : Plan) (b : Buffers) → eqb (length b.steps) count_bytes ≡ false → called (Call.run P) b ≡ record { result = 8; after = b }
 unfolding host_run
 other-count P b e =
-    ap (λ (t : Bool). after_run b (cond t (shown_run b.machine b.steps (whole chosen P (bench_in b))) (ran_out (packed (reply BadArguments)) b.machine b.registers b.marks b.memory b.steps)))
+    ap (λ (t : Bool). after_run b (cond t (shown_run b.machine b.steps (whole chosen P (bench_in b))) (ran_out (packed (reply (Err BadArguments))) b.machine b.registers b.marks b.memory b.steps)))
     (go (eqb (length b.machine) machine_bytes) (eqb (length b.steps) count_bytes) e)
   where
     go : (t u : Bool) → u ≡ false → every (t ∷ u ∷ []) ≡ false

@@ -1,9 +1,10 @@
 -- Whatever a host calls is answered with a number of the table, and a refusal changes no byte.
+use Rattle.std.specs.Prelude.{Err}
 use Rattle.numbers.proofs.Kit.{◌≡◌, refl, sym, ap, ap₂, ◌∙◌, subst, Bool, true, false, cond, List, [], ◌∷◌, ◌++◌, Option, none, some, ℕ, suc, ◌+◌, ◌*◌, ◌%◌}
-use Rattle.numbers.proofs.Kit.{◌^◌, ◌≤◌, ◌<◌, arith, leb, eqb, length, drop, eqb-true, eqb-false}
+use Rattle.numbers.proofs.Kit.{◌^◌, ◌≤◌, ◌<◌, arith, leb, eqb, length, drop, eqb-true, eqb-false, Err}
 use Rattle.numbers_format.specs.Parser.{Parsed}
 use Rattle.numbers_format.specs.Parser.Parsed.{whole, stopped}
-use Rattle.machine.specs.declared.Answer.TheVariants.{BadArguments}
+use Rattle.machine.specs.declared.Refusal.TheVariants.{BadArguments}
 use Rattle.machine.specs.declared.Reply.{Reply}
 use Rattle.machine.specs.declared.Wrong.TheVariants.{Opcode, LeftOut, Unlisted, Register}
 use Rattle.machine.specs.Tests.{every}
@@ -24,16 +25,16 @@ use Rattle.run.specs.Whole as run
 use Rattle.run.proofs.Demand1.{turn-refusal-changes-nothing}
 use Rattle.c_blocks.specs.Blocks.{machine_bytes, machine_of, packed, scalar_bytes, values_of}
 use Rattle.c_run_blocks.specs.RunBlocks.{run_bytes, run_fit, run_of, step_bytes}
-use Rattle.image.specs.declared.Imaged.{Imaged}
-use Rattle.image.specs.declared.Imaged.TheVariants as Imaged
+use Rattle.image.specs.declared.ImageError.{ImageError}
+use Rattle.image.specs.declared.ImageError.TheVariants as Imaged
 use Rattle.image.specs.Answers.{ImageReply, image_reply}
 use Rattle.image.specs.Writing.{SizeOutcome, size_image, WriteOutcome, write_image}
 use Rattle.image.specs.Reading.{read_image, check_image}
 use Rattle.image_read.specs.Blocks.{block_refused, into_block, restored_as, read_block}
 use Rattle.image_salvage.specs.Salvage.{SalvageOutcome, salvage}
-use Rattle.text_assembly.specs.declared.Texted.{Texted}
-use Rattle.text_assembly.specs.declared.Texted.TheVariants as Texted
-use Rattle.text_assembly.specs.Answers.{TextReply, text_reply, code_answer}
+use Rattle.std.specs.Prelude.{Ok, Err}
+use Rattle.text_assembly.specs.declared.TextError.TheVariants as TextError
+use Rattle.text_assembly.specs.Answers.{TextReply, Texted, text_reply, code_answer}
 use Rattle.text_assembly.specs.Lines.{line}
 use Rattle.text_assembly.specs.Reading.{read_line}
 use Rattle.c_scalars.specs.ScalarBlock.{step_block}
@@ -81,16 +82,16 @@ text-low a size h = go (cond (eqb a.number 0) size a.column)
     go x = omega (arith, h)
 
 texted-low : (a : Texted) → (text_reply a).number ≤ last_answer
-texted-low Texted.Done = omega arith
-texted-low (Texted.NoLine Opcode) = omega arith
-texted-low (Texted.NoLine LeftOut) = omega arith
-texted-low (Texted.NoLine Unlisted) = omega arith
-texted-low (Texted.NoLine Register) = omega arith
-texted-low Texted.BadArguments = omega arith
-texted-low Texted.NoRoom = omega arith
-texted-low (Texted.BadLine column) = omega arith
+texted-low (Ok u) = omega arith
+texted-low (Err (TextError.NoLine Opcode)) = omega arith
+texted-low (Err (TextError.NoLine LeftOut)) = omega arith
+texted-low (Err (TextError.NoLine Unlisted)) = omega arith
+texted-low (Err (TextError.NoLine Register)) = omega arith
+texted-low (Err TextError.BadArguments) = omega arith
+texted-low (Err TextError.NoRoom) = omega arith
+texted-low (Err (TextError.BadLine column)) = omega arith
 
-bad-low : packed (reply BadArguments) % 2 ^ 16 ≤ last_answer
+bad-low : packed (reply (Err BadArguments)) % 2 ^ 16 ≤ last_answer
 bad-low = omega arith
 
 nonzero : (n : ℕ) → ¬ (n % 2 ^ 16 ≡ 0) → ¬ (n ≡ 0)
@@ -106,7 +107,7 @@ module _ (b : Buffers) where
   unfolding host_start
   start-number rlen mlen elen rule seals = go (eqb (length b.machine) machine_bytes)
     where
-      go : (t : Bool) → (cond t (shown_start b.machine (start_machine rlen mlen elen rule seals b.registers b.marks)) (started_out (packed (reply BadArguments)) b.machine b.registers b.marks)).result % 2 ^ 16 ≤ last_answer
+      go : (t : Bool) → (cond t (shown_start b.machine (start_machine rlen mlen elen rule seals b.registers b.marks)) (started_out (packed (reply (Err BadArguments))) b.machine b.registers b.marks)).result % 2 ^ 16 ≤ last_answer
       go true = packed-low (start_machine rlen mlen elen rule seals b.registers b.marks).answer (start-low chosen rlen mlen elen rule seals b.registers b.marks)
       go false = bad-low
 
@@ -118,7 +119,7 @@ module _ (b : Buffers) where
       tests = eqb (length b.machine) machine_bytes ∷ eqb (length b.scalars) scalar_bytes ∷ []
 
       result : Bool → ℕ
-      result t = (cond t (shown_step b.machine (step_block word b.scalars (vectors_of b.file group) bench)) (stepped_out (packed (reply BadArguments)) b.machine b.registers b.marks b.scalars b.memory b.file)).result
+      result t = (cond t (shown_step b.machine (step_block word b.scalars (vectors_of b.file group) bench)) (stepped_out (packed (reply (Err BadArguments))) b.machine b.registers b.marks b.scalars b.memory b.file)).result
 
       go : (t : Bool) → every tests ≡ t → result t % 2 ^ 16 ≤ last_answer
       go true e =
@@ -132,7 +133,7 @@ module _ (b : Buffers) where
   unfolding host_seal seal_block
   seal-number from size = go (eqb (length b.machine) machine_bytes)
     where
-      go : (t : Bool) → (cond t (shown_seal b.registers b.marks (seal_block from size (machine_of b.machine) b.machine b.registers b.marks)) (sealed_out (packed (reply BadArguments)) b.machine b.registers b.marks)).result % 2 ^ 16 ≤ last_answer
+      go : (t : Bool) → (cond t (shown_seal b.registers b.marks (seal_block from size (machine_of b.machine) b.machine b.registers b.marks)) (sealed_out (packed (reply (Err BadArguments))) b.machine b.registers b.marks)).result % 2 ^ 16 ≤ last_answer
       go true = let B = bench_of (machine_of b.machine) (seals_in b.machine) b.registers b.marks [] in packed-low (add_seal from size B).answer (seal-low chosen from size B)
       go false = bad-low
 
@@ -140,7 +141,7 @@ module _ (b : Buffers) where
   unfolding host_run_start
   run-start-number P = go (every (eqb (length b.machine) machine_bytes ∷ eqb (length b.run) run_bytes ∷ []))
     where
-      go : (t : Bool) → (cond t (shown_run_start b.machine b.run (start_run chosen P bench)) (run_started_out (packed (reply BadArguments)) b.machine b.registers b.marks b.memory b.run)).result % 2 ^ 16 ≤ last_answer
+      go : (t : Bool) → (cond t (shown_run_start b.machine b.run (start_run chosen P bench)) (run_started_out (packed (reply (Err BadArguments))) b.machine b.registers b.marks b.memory b.run)).result % 2 ^ 16 ≤ last_answer
       go true = packed-low (start_run chosen P bench).answer (run-start-low chosen P bench)
       go false = bad-low
 
@@ -148,7 +149,7 @@ module _ (b : Buffers) where
   unfolding host_next
   next-number = go (every (run_fit b.run ∷ eqb (length b.step) step_bytes ∷ []))
     where
-      go : (t : Bool) → (cond t (shown_next b.run b.step (asked (ask chosen (run_of b.run)))) (next_out (packed (reply BadArguments)) b.run b.step)).result % 2 ^ 16 ≤ last_answer
+      go : (t : Bool) → (cond t (shown_next b.run b.step (asked (ask chosen (run_of b.run)))) (next_out (packed (reply (Err BadArguments))) b.run b.step)).result % 2 ^ 16 ≤ last_answer
       go true = packed-low (ask chosen (run_of b.run)).answer (ask-low chosen (run_of b.run))
       go false = bad-low
 
@@ -156,7 +157,7 @@ module _ (b : Buffers) where
   unfolding host_turn
   turn-number = go (turn_blocks b.run b.machine)
     where
-      go : (t : Bool) → (cond t (shown_turn b.run b.machine (turn_outcome chosen (running_in b))) (turned_out (packed (reply BadArguments)) b.run b.machine b.registers b.marks b.memory)).result % 2 ^ 16 ≤ last_answer
+      go : (t : Bool) → (cond t (shown_turn b.run b.machine (turn_outcome chosen (running_in b))) (turned_out (packed (reply (Err BadArguments))) b.run b.machine b.registers b.marks b.memory)).result % 2 ^ 16 ≤ last_answer
       go true = packed-low (turn chosen (running_in b)).answer (turn_low chosen (running_in b))
       go false = bad-low
 
@@ -164,7 +165,7 @@ module _ (b : Buffers) where
   unfolding host_run
   run-number P = go (every (eqb (length b.machine) machine_bytes ∷ eqb (length b.steps) count_bytes ∷ []))
     where
-      go : (t : Bool) → (cond t (shown_run b.machine b.steps (run.whole chosen P bench)) (ran_out (packed (reply BadArguments)) b.machine b.registers b.marks b.memory b.steps)).result % 2 ^ 16 ≤ last_answer
+      go : (t : Bool) → (cond t (shown_run b.machine b.steps (run.whole chosen P bench)) (ran_out (packed (reply (Err BadArguments))) b.machine b.registers b.marks b.memory b.steps)).result % 2 ^ 16 ≤ last_answer
       go true = packed-low (start_run chosen P bench).answer (run-start-low chosen P bench)
       go false = bad-low
 
@@ -194,7 +195,7 @@ module _ (b : Buffers) where
   unfolding host_image_read read_block
   image-read-number image = go (eqb (length b.machine) machine_bytes)
     where
-      go : (t : Bool) → (shown_read (cond t (into_block b.machine (read_image image b.registers b.marks)) (restored_as (record { answer = block_refused (check_image image); machine = no_machine }) b.machine b.registers b.marks))).result % 2 ^ 16 ≤ last_answer
+      go : (t : Bool) → (shown_read (cond t (into_block b.machine (read_image image b.registers b.marks)) (restored_as (Err (block_refused (check_image image))) b.machine b.registers b.marks))).result % 2 ^ 16 ≤ last_answer
       go true = reply-low (read_image image b.registers b.marks).answer 0 (read_low chosen image b.registers b.marks)
       go false = reply-low (image_reply (block_refused (check_image image))) 0 (image-low (block_refused (check_image image)))
 
@@ -254,9 +255,9 @@ word-text-number : (word : ℕ) (text : List ℕ) → (host_word_text word text)
 unfolding host_word_text
 word-text-number word text = go (line word)
   where
-    fit : (s : List ℕ) (t : Bool) → let o = cond t (lined Texted.Done (length s) (s ++ drop (length s) text)) (lined Texted.NoRoom 0 text) in packed_text o.answer o.size % 2 ^ 16 ≤ last_answer
-    fit s true = text-low (text_reply Texted.Done) (length s) (texted-low Texted.Done)
-    fit s false = text-low (text_reply Texted.NoRoom) 0 (texted-low Texted.NoRoom)
+    fit : (s : List ℕ) (t : Bool) → let o = cond t (lined (Ok tt) (length s) (s ++ drop (length s) text)) (lined (Err TextError.NoRoom) 0 text) in packed_text o.answer o.size % 2 ^ 16 ≤ last_answer
+    fit s true = text-low (text_reply (Ok tt)) (length s) (texted-low (Ok tt))
+    fit s false = text-low (text_reply (Err TextError.NoRoom)) 0 (texted-low (Err TextError.NoRoom))
 
     go : (l : Option (List ℕ)) → let o = lined_as word l text in packed_text o.answer o.size % 2 ^ 16 ≤ last_answer
     go none = text-low (text_reply (code_answer (decode word))) 0 (texted-low (code_answer (decode word)))
@@ -266,10 +267,10 @@ text-word-number : (text word : List ℕ) → (host_text_word text word).result 
 unfolding host_text_word
 text-word-number text word = go (eqb (length word) word_bytes) (read_line text)
   where
-    go : (t : Bool) (p : Parsed ℕ) → (cond t (word_as p word) (word_out Texted.BadArguments word)).result % 2 ^ 16 ≤ last_answer
-    go true (whole w) = text-low (text_reply Texted.Done) 0 (texted-low Texted.Done)
-    go true (stopped place) = text-low (text_reply (Texted.BadLine (suc place))) 0 (texted-low (Texted.BadLine (suc place)))
-    go false p = text-low (text_reply Texted.BadArguments) 0 (texted-low Texted.BadArguments)
+    go : (t : Bool) (p : Parsed ℕ) → (cond t (word_as p word) (word_out (Err TextError.BadArguments) word)).result % 2 ^ 16 ≤ last_answer
+    go true (whole w) = text-low (text_reply (Ok tt)) 0 (texted-low (Ok tt))
+    go true (stopped place) = text-low (text_reply (Err (TextError.BadLine (suc place)))) 0 (texted-low (Err (TextError.BadLine (suc place))))
+    go false p = text-low (text_reply (Err TextError.BadArguments)) 0 (texted-low (Err TextError.BadArguments))
 
 answers : (c : HostCall) (b : Buffers) → InBytes b → ((limit : ℕ) → ¬ (c ≡ HostCall.call (Call.run_turns limit))) → CallAnswers c b (host_called c b)
 answers (HostCall.call c) b small n = record {
@@ -320,7 +321,7 @@ module _ (limit : ℕ) (b : Buffers) (small : InBytes b) where
   unfit e = (omega arith, refl, λ l. (λ z. eqb-false 8 0 refl (sym (ap (λ (t : Bool). result t) e) ∙ z), ap (λ (t : Bool). (out t).after) e))
     where
       out : Bool → Called
-      out t = after_turn b (cond t (shown_turn b.run b.machine (turn_outcome chosen r)) (turned_out (packed (reply BadArguments)) b.run b.machine b.registers b.marks b.memory))
+      out t = after_turn b (cond t (shown_turn b.run b.machine (turn_outcome chosen r)) (turned_out (packed (reply (Err BadArguments))) b.run b.machine b.registers b.marks b.memory))
 
       result : Bool → ℕ
       result t = (out t).result

@@ -1,13 +1,13 @@
 -- Steps, starts, additions and images in C are those of the definitions.
+use Rattle.std.specs.Prelude.{Ok, Err}
 use Rattle.numbers.proofs.Kit.{◌≡◌, refl, sym, ap, ap₂, ◌∙◌, subst, ◌↔◌, Bool, true, false, cond, ◌&&◌, List, [], ◌∷◌, ◌++◌, append-nil, ℕ, ◌*◌, ◌%◌, ◌^◌}
-use Rattle.numbers.proofs.Kit.{◌<◌, mod-eq_of_lt, arith, leb, eqb, length, get_or, drop, replicate, eqb-true, eqb-false, eq-eqb, ne_eqb}
+use Rattle.numbers.proofs.Kit.{◌<◌, mod-eq_of_lt, arith, leb, eqb, length, get_or, drop, replicate, eqb-true, eqb-false, eq-eqb, ne_eqb, Err}
 use Rattle.numbers.proofs.WordLaws.{le-put_row}
 use Rattle.numbers.specs.Tile.{get_le, put_row}
-use Rattle.machine.specs.declared.Answer.{Answer}
-use Rattle.machine.specs.declared.Answer.TheVariants.{Done, BadArguments, TooManySeals}
+use Rattle.machine.specs.declared.Refusal.TheVariants.{BadArguments, TooManySeals}
 use Rattle.machine.specs.declared.Machine.{Machine}
 use Rattle.machine.specs.Tests.{every}
-use Rattle.machine.specs.Answers.{bare, reply, is_done}
+use Rattle.machine.specs.Answers.{bare, reply, is_done, Answer, Done}
 use Rattle.machine.specs.Geometry.{Range, range, Bench, bench_of}
 use Rattle.machine.specs.Setting.{chosen}
 use Rattle.machine.specs.Starting.{StartOutcome, most_seals, ranges, startable, no_machine, fresh_machine, started_as, start_machine}
@@ -27,7 +27,7 @@ use Rattle.unit_sealing.proofs.AddedRange.{ranges-are-exact}
 use Rattle.c_step.specs.BenchCalls.{HostStarted, started_out, shown_start, host_start, stepped_out, shown_step, host_step, HostSealed}
 use Rattle.c_step.proofs.Refusal.{start-refusal, seal-refusal}
 use Rattle.c_run_blocks.specs.RunBlocks.{run_of}
-use Rattle.image.specs.declared.Imaged.TheVariants as Image
+use Rattle.image.specs.declared.ImageError.TheVariants as Image
 use Rattle.image.specs.Answers.{image_reply}
 use Rattle.image.specs.Writing.{SizeOutcome, size_reply, size_image, WriteOutcome, write_reply, write_image}
 use Rattle.image.specs.Theorems.{image_in}
@@ -69,7 +69,7 @@ module _ (word group : ℕ) (b : Buffers) (small : Bytes b.machine) (lm : length
   abbrev out : Bool → Called
   out t =
       after_step b (cond t (shown_step b.machine (step_block word b.scalars (vectors_of b.file group) (bench_in b)))
-      (stepped_out (packed (reply BadArguments)) b.machine b.registers b.marks b.scalars b.memory b.file))
+      (stepped_out (packed (reply (Err BadArguments))) b.machine b.registers b.marks b.scalars b.memory b.file))
 
   called_is : called (Call.step word group) b ≡ out true
   unfolding host_step
@@ -119,7 +119,7 @@ other_step : (word group : ℕ) (b : Buffers) (t u : Bool) → eqb (length b.mac
 unfolding host_step
 other_step word group b t u e f h =
     ap (λ (t : Bool). after_step b (cond t (shown_step b.machine (step_block word b.scalars (vectors_of b.file group) (bench_in b)))
-    (stepped_out (packed (reply BadArguments)) b.machine b.registers b.marks b.scalars b.memory b.file)))
+    (stepped_out (packed (reply (Err BadArguments))) b.machine b.registers b.marks b.scalars b.memory b.file)))
     (ap₂ (λ (s t : Bool). s && (t && true)) e f ∙ h)
 
 pub step-call-steps : StepCallSteps
@@ -185,8 +185,8 @@ start-result rlen mlen elen rule seals b =
         (started_as (record { answer = a; machine = no_machine }) seals b.registers b.marks)
 
     go : (t u v : Bool)
-        → let o : StartOutcome = started (cond u (cond v Done TooManySeals) BadArguments) in
-        (cond t (shown_start b.machine o) (started_out (packed (reply BadArguments)) b.machine b.registers b.marks)).result ≡ cond t o.answer.number 8
+        → let o : StartOutcome = started (cond u (cond v Done (Err TooManySeals)) (Err BadArguments)) in
+        (cond t (shown_start b.machine o) (started_out (packed (reply (Err BadArguments))) b.machine b.registers b.marks)).result ≡ cond t o.answer.number 8
     go true true true = refl
     go true true false = refl
     go true false v = refl
@@ -219,20 +219,20 @@ seal-call-answers from size b =
 
 module _ (b : Buffers) where
   -- a block of another length is refused as a state at fault is
-  size-block : cond (eqb (length b.machine) machine_bytes) (size_image (machine_of b.machine) (seals_in b.machine) b.registers b.marks) (size_reply Image.BadArguments 0)
+  size-block : cond (eqb (length b.machine) machine_bytes) (size_image (machine_of b.machine) (seals_in b.machine) b.registers b.marks) (size_reply (Err Image.BadArguments))
       ≡ size_image (machine_of b.machine) (seals_in b.machine) b.registers b.marks
   unfolding size_image
   size-block = go (eqb (length b.machine) machine_bytes) refl
     where
       out : Bool → SizeOutcome
-      out s = cond s (size_reply Image.Done (length (image_in (bench_in b)))) (size_reply Image.BadArguments 0)
+      out s = cond s (size_reply (Ok (length (image_in (bench_in b))))) (size_reply (Err Image.BadArguments))
 
-      go : (t : Bool) → eqb (length b.machine) machine_bytes ≡ t → cond t (out (sound_bench (bench_in b))) (size_reply Image.BadArguments 0) ≡ out (sound_bench (bench_in b))
+      go : (t : Bool) → eqb (length b.machine) machine_bytes ≡ t → cond t (out (sound_bench (bench_in b))) (size_reply (Err Image.BadArguments)) ≡ out (sound_bench (bench_in b))
       go true e = refl
       go false e = ap out (sym (holds-none b e))
 
   write-block : (room : List ℕ)
-      → cond (eqb (length b.machine) machine_bytes) (write_image (machine_of b.machine) (seals_in b.machine) b.registers b.marks room) (write_reply Image.BadArguments 0 room)
+      → cond (eqb (length b.machine) machine_bytes) (write_image (machine_of b.machine) (seals_in b.machine) b.registers b.marks room) (write_reply (Err Image.BadArguments) room)
       ≡ write_image (machine_of b.machine) (seals_in b.machine) b.registers b.marks room
   unfolding write_image
   write-block room = go (eqb (length b.machine) machine_bytes) refl
@@ -241,9 +241,9 @@ module _ (b : Buffers) where
       image = image_in (bench_in b)
 
       out : Bool → WriteOutcome
-      out s = cond s (cond (leb (length image) (length room)) (write_reply Image.Done (length image) (image ++ drop (length image) room)) (write_reply Image.NoRoom 0 room)) (write_reply Image.BadArguments 0 room)
+      out s = cond s (cond (leb (length image) (length room)) (write_reply (Ok (length image)) (image ++ drop (length image) room)) (write_reply (Err Image.NoRoom) room)) (write_reply (Err Image.BadArguments) room)
 
-      go : (t : Bool) → eqb (length b.machine) machine_bytes ≡ t → cond t (out (sound_bench (bench_in b))) (write_reply Image.BadArguments 0 room) ≡ out (sound_bench (bench_in b))
+      go : (t : Bool) → eqb (length b.machine) machine_bytes ≡ t → cond t (out (sound_bench (bench_in b))) (write_reply (Err Image.BadArguments) room) ≡ out (sound_bench (bench_in b))
       go true e = refl
       go false e = ap out (sym (holds-none b e))
 
@@ -270,7 +270,7 @@ image-left room b = go (eqb (length b.machine) machine_bytes) refl
 
     go : (t : Bool) → eqb (length b.machine) machine_bytes ≡ t → (cond t (written_out (packed_reply o.answer o.size) o.room) (written_out (packed_reply (image_reply Image.BadArguments) 0) room)).image ≡ o.room
     go true e = refl
-    go false e = ap (λ (o : WriteOutcome). o.room) (subst (λ (t : Bool). cond t o (write_reply Image.BadArguments 0 room) ≡ o) e (write-block b room))
+    go false e = ap (λ (o : WriteOutcome). o.room) (subst (λ (t : Bool). cond t o (write_reply (Err Image.BadArguments) room) ≡ o) e (write-block b room))
 
 -- of a number that is not 0 the place is taken
 place-of : (n size : ℕ) → ¬ (n ≡ 0) → cond (eqb n 0) size 0 ≡ 0

@@ -1,18 +1,17 @@
 -- A step of a word is its meaning.
 use Rattle.numbers.proofs.Kit.{◌≡◌, refl, sym, ap, ap₂, ◌∙◌, Bool, true, false, cond, List, Option, none, some, Option·some-injective, Option·none-ne-some}
-use Rattle.numbers.proofs.Kit.{ℕ}
+use Rattle.numbers.proofs.Kit.{ℕ, Err}
 use Rattle.numbers.specs.Blocks.{Choice}
-use Rattle.machine.specs.declared.Answer.{Answer}
-use Rattle.machine.specs.declared.Answer.TheVariants.{BadArguments}
+use Rattle.machine.specs.declared.Refusal.TheVariants.{BadArguments}
 use Rattle.machine.specs.declared.Reply.{Reply}
-use Rattle.machine.specs.Answers.{reply, done, is_done, verdict}
+use Rattle.machine.specs.Answers.{reply, done, is_done, verdict, Answer}
 use Rattle.machine.specs.Geometry.{Parameters, parameters, Bench}
 use Rattle.machine.specs.Vectors.{Vectors, vectors_fit, idle}
 use Rattle.machine.specs.Listing.{decode}
 use Rattle.machine.specs.Meanings.{vectors_after}
 use Rattle.machine.specs.Step.{Outcome, VectorOutcome, beside, checks_in, meant_in, given_in, carried_in, refused_in, outcome_in, vectors_in, outcome, step_by, step_with}
 use Rattle.machine.proofs.TestLaws.{false-true}
-use Rattle.machine.proofs.Refusal.{step-refusal-changes-nothing}
+use Rattle.machine.proofs.Refused.{step-refusal-changes-nothing}
 use Rattle.theorem_refusals.proofs.Exact.{step-answers-exactly}
 use Rattle.run.proofs.RefusalLaws.{number-done}
 use Rattle.run.specs.declared.Run.{Run}
@@ -40,12 +39,12 @@ module _ (grant : Choice) (word : ℕ) (xs : List ℕ) (W : Vectors) (B : Bench)
       out : Bool → Bool → VectorOutcome
       out s t =
           cond s (beside (cond t (vectors_after M (meant_in W M (decode word) xs B) (given_in W M (decode word) xs B) W.file) W.file) (cond t (carried_in W M (decode word) xs B) (refused_in W M (decode word) xs B v)))
-          (beside W.file (refused_in W M (decode word) xs B BadArguments))
+          (beside W.file (refused_in W M (decode word) xs B (Err BadArguments)))
 
       go : (s t : Bool) → is_done v ≡ t → (out s t).answer.number ≡ 0 → out s t ≡ meaning
       go true true e h = refl
       go true false e h = absurd (false-true (sym e ∙ number-done (reply v) h))
-      go false t e h = absurd (false-true (number-done (reply BadArguments) h))
+      go false t e h = absurd (false-true (number-done (reply (Err BadArguments)) h))
 
   refused : ¬ ((step_with grant word xs W B).answer.number ≡ 0)
       → step_with grant word xs W B ≡ record { answer = (step_with grant word xs W B).answer; bench = B; scalars = xs; vectors = W.file }
@@ -70,7 +69,7 @@ own-step : (grant : Choice) (word : ℕ) (xs : List ℕ) (B : Bench)
 unfolding step_by outcome step_with
 own-step grant word xs B =
     let M = parameters grant B.machine in
-    let out : Bool → VectorOutcome = λ t. cond t (beside (vectors_in idle M (decode word) xs B) (outcome_in idle M (decode word) xs B)) (beside idle.file (refused_in idle M (decode word) xs B BadArguments)) in
+    let out : Bool → VectorOutcome = λ t. cond t (beside (vectors_in idle M (decode word) xs B) (outcome_in idle M (decode word) xs B)) (beside idle.file (refused_in idle M (decode word) xs B (Err BadArguments))) in
     (ap (λ (t : Bool). (out t).answer) (sym idle-fits), ap (λ (t : Bool). (out t).bench) (sym idle-fits))
 
 pub turn-is-its-step : TurnIsItsStep

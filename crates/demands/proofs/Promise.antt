@@ -1,5 +1,5 @@
 -- The promise is kept.
-use Rattle.machine.proofs.Refusal.{step-refusal-changes-nothing, start-refusal-changes-nothing, seal-refusal-changes-nothing}
+use Rattle.machine.proofs.Refused.{step-refusal-changes-nothing, start-refusal-changes-nothing, seal-refusal-changes-nothing}
 use Rattle.machine.proofs.NoFault.{step-keeps-sound, step-keeps-file, seal-keeps-sound, start-sound}
 use Rattle.machine.proofs.Stores.{stores-are-exact}
 use Rattle.machine.proofs.SizeLaws.{chosen-grants}

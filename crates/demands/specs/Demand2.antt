@@ -19,8 +19,7 @@ use Rattle.run.specs.Acts.{Act, Session, after_acts, lent_last}
 use Rattle.run.specs.Theorems.{SealKept}
 use Rattle.unit_ranges.specs.Ranges.{seals_in}
 use Rattle.c_blocks.specs.Blocks.{Bytes, packed, scalar_bytes, values_of}
-use Rattle.image.specs.declared.Imaged.TheVariants.{Done}
-use Rattle.image.specs.Answers.{image_reply}
+use Rattle.image.specs.Answers.{image_done}
 use Rattle.image.specs.Reading.{ReadOutcome, read_image}
 use Rattle.theorem_calls.specs.Calls.{Buffers, Call, Called, called}
 use Rattle.theorem_calls.specs.Composed.{after_calls, bench_in, EachSparesSeal}
@@ -79,7 +78,7 @@ read_bench image registers marks memory =
 pub data Made (seals : List Range) (B : Bench) : Type 0 where
   started : (rlen mlen elen rule : ℕ) (given registers marks : List ℕ) → (start_machine rlen mlen elen rule given registers marks).answer.number ≡ 0
       → B ≡ started_bench rlen mlen elen rule given registers marks B.memory → seals ≡ ranges given → Made seals B
-  read : (image registers marks : List ℕ) → Images.ByteString image → (read_image image registers marks).answer ≡ image_reply Done
+  read : (image registers marks : List ℕ) → Images.ByteString image → (read_image image registers marks).answer ≡ image_done
       → B ≡ read_bench image registers marks B.memory → seals ≡ (read_image image registers marks).seals → Made seals B
   added : (start size : ℕ) (A : Bench) → (add_seal start size A).answer.number ≡ 0
       → B ≡ bench_of A.machine (add_seal start size A).bench.seals A.registers A.marks B.memory → seals ≡ A.seals ++ (range start size ∷ []) → Made seals B

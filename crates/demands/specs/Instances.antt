@@ -2,6 +2,7 @@
 -- sealed ranges, words with three operands, a run of 47 steps, an image of two runs, several acts and calls. Records and lines have the names that
 -- Promise.antt and the demands' pages have; proofs/Instances.antt takes each line from the promise's own term, so that a statement which asks for
 -- more, or speaks of less, no longer gives its line.
+use Rattle.std.specs.Prelude.{Ok}
 use Rattle.std.specs.Prelude.{◌≡◌, ◌⊎◌, ◌∷◌, ◌++◌, ◌+◌, ◌*◌, ◌-◌, ◌/◌, ◌%◌, ◌^◌, ◌≤◌, ◌<◌}
 use Rattle.numbers.specs.Kit.{true, false, cond, map, List, [], List-as-Memᴰ, none, some, ℕ, zero, suc}
 use Rattle.numbers.specs.Kit.{length, get_or, replicate, set, take, drop, negsuc}
@@ -54,8 +55,8 @@ use Rattle.unit_table.specs.Table.{table_agrees, entry_of, rest_right, meant}
 use Rattle.numbers_format.specs.Numbers.{encode, span}
 use Rattle.numbers_format.specs.Formats.{Ends, Format, Accepts, Accepted}
 use Rattle.numbers_format.specs.Parser.{Parsed}
-use Rattle.image.specs.declared.Imaged.TheVariants.{Done, BadArguments, Damaged}
-use Rattle.image.specs.Answers.{image_reply}
+use Rattle.image.specs.declared.ImageError.TheVariants.{BadArguments, Damaged}
+use Rattle.image.specs.Answers.{image_reply, image_done}
 use Rattle.image.specs.Cells.{Fit, runs, spread}
 use Rattle.image.specs.Cells.Run.{run}
 use Rattle.image.specs.Images.{image_of, sound_with, IsImage}
@@ -654,13 +655,13 @@ pub record Requests : Type 1 where
   pub six-same : image_in spotted ≡ image_in spotted'
   pub six-others : Alike spotted spotted'
   -- read into registers that hold other bytes; into registers that are too short
-  pub six-read : ((read_image image regs' all_marks).answer ≡ image_reply Done) × ((read_image image (replicate 9 0) all_marks).answer ≡ image_reply BadArguments)
+  pub six-read : ((read_image image regs' all_marks).answer ≡ image_done) × ((read_image image (replicate 9 0) all_marks).answer ≡ image_reply BadArguments)
   pub six-made : let o = read_image image regs' all_marks in
       (sound_with o.machine o.seals o.registers o.marks ≡ true) × (image_of o.machine o.seals o.registers o.marks ≡ image) × (get_or o.registers 100 0 ≡ 9)
   -- written into a room that is longer, then read into other registers
   pub six-back : let w = write_image (machine_by 1) sealed3 regs spots (room 30) in
-      let o = read_image (take w.size w.room) regs' all_marks in (o.answer ≡ image_reply Done) × Alike spotted (bench_of o.machine o.seals o.registers o.marks mem)
-  pub six-again : let o = read_image image regs' all_marks in write_image o.machine o.seals o.registers o.marks (room 30) ≡ write_reply Done 27 (image ++ room 3)
+      let o = read_image (take w.size w.room) regs' all_marks in (o.answer ≡ image_done) × Alike spotted (bench_of o.machine o.seals o.registers o.marks mem)
+  pub six-again : let o = read_image image regs' all_marks in write_image o.machine o.seals o.registers o.marks (room 30) ≡ write_reply (Ok 27) (image ++ room 3)
   pub six-c-made : let b = (called (Call.image_read image) other_host).after in
       (sound_bench (bench_in b) ≡ true) × (image_in (bench_in b) ≡ image) × (get_or b.registers 100 0 ≡ 9) × (b.memory ≡ mem)
   pub six-c-back : let o = called (Call.image_read (image_from (written_into (room 30) spotted_host))) other_host in
@@ -704,11 +705,11 @@ pub record Requests : Type 1 where
   pub twelve-c-calls : seals_in (after_calls (Call.start 96 512 64 1 seals ∷ Call.image_read cut ∷ calls7) host).machine ≡ sealed3 ++ (range 352 2 ∷ [])
   -- cut in its second run: one run of two is kept; whatever image d goes on from there
   pub thirteen : (u : List ℕ) (d : Described) → Accepts image_format (cut ++ u) d
-      → ((26 < end_of d 0) × (salvage cut (room 30) ≡ salvaged (Damaged 26) 0 0 26 0 (room 30))) ⊎ ((n : ℕ) × KeepsFirst cut (room 30) 26 d n)
+      → ((26 < end_of d 0) × (salvage cut (room 30) ≡ salvaged (image_reply (Damaged 26)) 0 0 26 0 (room 30))) ⊎ ((n : ℕ) × KeepsFirst cut (room 30) 26 d n)
   pub thirteen-place : Ends IsImage cut 26
   pub thirteen-image : IsImage (take 16 image ++ (1 ∷ 70 ∷ 3 ∷ 70 ∷ 71 ∷ 72 ∷ [])) × (drop 22 (salvage cut (room 30)).room ≡ room 8)
   pub thirteen-room : ¬ ((salvage cut (room 26)).answer.number ≡ 14)
-  pub thirteen-sound : salvage image (room 30) ≡ salvaged Done 2 2 27 27 (image ++ room 3)
+  pub thirteen-sound : salvage image (room 30) ≡ salvaged image_done 2 2 27 27 (image ++ room 3)
   -- byte 71 lies in the run that is kept
   pub thirteen-cut : let o = salvage (take 26 (image_in spotted)) (room 30) in
       let r = read_image (take o.size o.room) regs' all_marks in (r.machine ≡ machine_by 1) × (r.seals ≡ sealed3) × (get_or r.registers 71 0 ≡ 71)
@@ -750,8 +751,8 @@ pub record Computed : Type 0 where
   -- registers and marks of a start
   pub started : ((start_machine 128 512 64 1 seals regs all_marks).registers ≡ regs) × ((start_machine 128 512 64 1 seals regs all_marks).marks ≡ replicate 1024 0)
   -- registers, marks and room of an image that is sized, and written
-  pub sized-is : size_image (machine_by 1) sealed3 regs spots ≡ size_reply Done 27
-  pub written_is : write_image (machine_by 1) sealed3 regs spots (room 30) ≡ write_reply Done 27 (image ++ room 3)
+  pub sized-is : size_image (machine_by 1) sealed3 regs spots ≡ size_reply (Ok 27)
+  pub written_is : write_image (machine_by 1) sealed3 regs spots (room 30) ≡ write_reply (Ok 27) (image ++ room 3)
   -- image, registers and marks of one that is read: bytes 69 to 73, of which three are in the image, and the marks
   pub read_is : (take 5 (drop 69 (read_image image regs' all_marks).registers) ≡ 9 ∷ 70 ∷ 71 ∷ 72 ∷ 9 ∷ []) × ((read_image image regs' all_marks).marks ≡ spots)
   -- of the C functions each buffer, and each number; blocks that are written whole held 9 before

@@ -1,4 +1,5 @@
 -- The theorems of specs/Theorems.antt.
+use Rattle.std.specs.Prelude.{Ok, Err}
 use Rattle.numbers.proofs.Kit.{◌≡◌, refl, sym, ap, ap₂, ◌∙◌, subst, inl, inr, Bool, true, false, cond, List, [], ◌∷◌, ◌++◌, ℕ, ◌≤◌, arith, leb, eqb, length}
 use Rattle.numbers.proofs.Kit.{take, drop, replicate, length-replicate, take-append_seam, eqb-true, eq-eqb, le-leb}
 use Rattle.numbers_format.specs.Numbers.{ByteString}
@@ -10,18 +11,17 @@ use Rattle.numbers_format.proofs.FormatLaws.{accepts-parse, parser-right, accept
 use Rattle.machine.specs.declared.Machine.{Machine}
 use Rattle.machine.specs.Geometry.{register_bytes, Bench, bench_of}
 use Rattle.machine.specs.Setting.{chosen}
-use Rattle.machine.specs.Starting.{no_machine}
 use Rattle.machine.specs.Faults.{sound_bench}
 use Rattle.machine.specs.Alike.{Alike}
 use Rattle.machine.proofs.TestLaws.{every-each, each-every}
 use Rattle.machine.proofs.Sealing.{seal-holds}
-use Rattle.image.specs.declared.Imaged.TheVariants.{Done, BadArguments, NoRoom}
-use Rattle.image.specs.Answers.{ImageReply, image_reply}
+use Rattle.image.specs.declared.ImageError.TheVariants.{BadArguments, NoRoom}
+use Rattle.image.specs.Answers.{ImageReply, image_done}
 use Rattle.image.specs.Cells.{Cell, Run, cells_of, runs, spread, Fit, over, marks_of}
 use Rattle.image.specs.Images.{Seals, Header, exponent, header_of, machine_from, spelled, image_of, sound_with, IsImage}
 use Rattle.image.specs.ImageFormat.{Described, all_register_bytes, image_format}
 use Rattle.image.specs.Writing.{WriteOutcome, write_reply, write_image}
-use Rattle.image.specs.Reading.{ReadOutcome, restored, cells_in, fitted, read_as, read_image}
+use Rattle.image.specs.Reading.{ReadOutcome, restored, not_restored, cells_in, fitted, read_as, read_image}
 use Rattle.image.specs.Theorems.{image_in, AlikeHaveOneImage, OthersNever, FormatIsImages, Fits, ReadAnswers, ReadIsExact, ReadRefusalChangesNothing, WriteRefusalChangesNothing, MakesItsMachine, ReadMakesItsMachine, SealHoldsFromRead, WrittenIsReadBack, ReadIsWrittenBack}
 use Rattle.image.proofs.RunLaws.{spread-runs, fit-runs, runs-spread, length-spread}
 use Rattle.image.proofs.ImageLaws.{Spelling, image-live, image-out, image-in, all_runs, ok-spread}
@@ -105,7 +105,7 @@ module _ (s : List ℕ) (d : Described) (a : Accepts image_format s d) (lent : L
       (ap runs (cells_over (cells_in d) lent lent-many) ∙ runs-spread 0 (all_register_bytes d.header.mlen) d.body spelling.fits)
       ∙ sym spelling.are
 
-  made : MakesItsMachine s lent (restored Done (machine_from d.header) d.header.seals (over (cells_in d) lent) (marks_of (cells_in d)))
+  made : MakesItsMachine s lent (restored (machine_from d.header) d.header.seals (over (cells_in d) lent) (marks_of (cells_in d)))
   made = record { not-at-fault = made-sound; its-image = made-image; as_lent = over-lent (cells_in d) lent lent-many }
 
 pub is-accepted : (s : List ℕ) → IsImage s → Accepted image_format s
@@ -154,15 +154,15 @@ module _ (d : Described) (registers marks : List ℕ) where
       let t = every-each (eqb (length registers) size ∷ eqb (length marks) size ∷ []) h in
       (eqb-true (length registers) size t.0, eqb-true (length marks) size t.1.0)
 
-  pub read_done : fitted d registers marks ≡ true → read_as (whole d) registers marks ≡ restored Done (machine_from d.header) d.header.seals (over (cells_in d) registers) (marks_of (cells_in d))
+  pub read_done : fitted d registers marks ≡ true → read_as (whole d) registers marks ≡ restored (machine_from d.header) d.header.seals (over (cells_in d) registers) (marks_of (cells_in d))
   read_done h = rw h
 
-  pub read-unfit : ¬ Fits (machine_from d.header) registers marks → read_as (whole d) registers marks ≡ restored BadArguments no_machine [] registers marks
+  pub read-unfit : ¬ Fits (machine_from d.header) registers marks → read_as (whole d) registers marks ≡ not_restored BadArguments registers marks
   read-unfit f = go (fitted d registers marks) refl
     where
       go : (t : Bool) → fitted d registers marks ≡ t
-          → cond t (restored Done (machine_from d.header) d.header.seals (over (cells_in d) registers) (marks_of (cells_in d))) (restored BadArguments no_machine [] registers marks)
-          ≡ restored BadArguments no_machine [] registers marks
+          → cond t (restored (machine_from d.header) d.header.seals (over (cells_in d) registers) (marks_of (cells_in d))) (not_restored BadArguments registers marks)
+          ≡ not_restored BadArguments registers marks
       go true e = absurd (f (true-fits e))
       go false e = refl
 
@@ -203,7 +203,7 @@ read-refusal s registers marks = go (parse image_format s)
     go (whole d) h = fit (fitted d registers marks) h
       where
         out : Bool → ReadOutcome
-        out t = cond t (restored Done (machine_from d.header) d.header.seals (over (cells_in d) registers) (marks_of (cells_in d))) (restored BadArguments no_machine [] registers marks)
+        out t = cond t (restored (machine_from d.header) d.header.seals (over (cells_in d) registers) (marks_of (cells_in d))) (not_restored BadArguments registers marks)
 
         fit : (t : Bool) → ¬ ((out t).answer.number ≡ 0) → ((out t).registers ≡ registers) × ((out t).marks ≡ marks)
         fit true h = absurd (h refl)
@@ -214,7 +214,7 @@ unfolding write_image
 write-refusal m seals registers marks room = go (sound_with m seals registers marks) (leb (length (image_of m seals registers marks)) (length room))
   where
     out : Bool → Bool → WriteOutcome
-    out t u = cond t (cond u (write_reply Done (length (image_of m seals registers marks)) (image_of m seals registers marks ++ drop (length (image_of m seals registers marks)) room)) (write_reply NoRoom 0 room)) (write_reply BadArguments 0 room)
+    out t u = cond t (cond u (write_reply (Ok (length (image_of m seals registers marks))) (image_of m seals registers marks ++ drop (length (image_of m seals registers marks)) room)) (write_reply (Err NoRoom) room)) (write_reply (Err BadArguments) room)
 
     go : (t u : Bool) → ¬ ((out t u).answer.number ≡ 0) → ((out t u).size ≡ 0) × ((out t u).room ≡ room)
     go true true h = absurd (h refl)
@@ -228,20 +228,20 @@ record Accepting (s registers marks : List ℕ) : Type 0 where
   what : Described
   accepted : Accepts image_format s what
   fits : Fits (machine_from what.header) registers marks
-  leaves : read_image s registers marks ≡ restored Done (machine_from what.header) what.header.seals (over (cells_in what) registers) (marks_of (cells_in what))
+  leaves : read_image s registers marks ≡ restored (machine_from what.header) what.header.seals (over (cells_in what) registers) (marks_of (cells_in what))
 
-accepting : (s registers marks : List ℕ) → ByteString s → (read_image s registers marks).answer ≡ image_reply Done → Accepting s registers marks
+accepting : (s registers marks : List ℕ) → ByteString s → (read_image s registers marks).answer ≡ image_done → Accepting s registers marks
 unfolding read_image
 accepting s registers marks b = go (parse image_format s) refl (parser-right image_format image-live s b)
   where
-    go : (q : Parsed Described) → parse image_format s ≡ q → Right image_format s q → (read_as q registers marks).answer ≡ image_reply Done → Accepting s registers marks
+    go : (q : Parsed Described) → parse image_format s ≡ q → Right image_format s q → (read_as q registers marks).answer ≡ image_done → Accepting s registers marks
     go (stopped p) e r h = let z : ◌≡◌ {A = ℕ} 15 0 = ap (λ (x : ImageReply). x.number) h in absurd (omega arith)
     go (whole d) e r h = fit (fitted d registers marks) refl h
       where
         out : Bool → ReadOutcome
-        out t = cond t (restored Done (machine_from d.header) d.header.seals (over (cells_in d) registers) (marks_of (cells_in d))) (restored BadArguments no_machine [] registers marks)
+        out t = cond t (restored (machine_from d.header) d.header.seals (over (cells_in d) registers) (marks_of (cells_in d))) (not_restored BadArguments registers marks)
 
-        fit : (t : Bool) → fitted d registers marks ≡ t → (out t).answer ≡ image_reply Done → Accepting s registers marks
+        fit : (t : Bool) → fitted d registers marks ≡ t → (out t).answer ≡ image_done → Accepting s registers marks
         fit true f h = record {
           what = d;
           accepted = r;
@@ -264,14 +264,14 @@ seal-holds-from-read s registers marks memory b h ws q x =
 
 -- an image that fits is written
 write_done : (m : Machine) (seals : Seals) (registers marks room : List ℕ) → sound_with m seals registers marks ≡ true → length (image_of m seals registers marks) ≤ length room
-    → write_image m seals registers marks room ≡ write_reply Done (length (image_of m seals registers marks)) (image_of m seals registers marks ++ drop (length (image_of m seals registers marks)) room)
+    → write_image m seals registers marks room ≡ write_reply (Ok (length (image_of m seals registers marks))) (image_of m seals registers marks ++ drop (length (image_of m seals registers marks)) room)
 unfolding write_image
 write_done m seals registers marks room s n = rw (s, le-leb (length (image_of m seals registers marks)) (length room) n)
 
 -- the image of a bench, read into buffers of its machine's size
 module _ (B : Bench) (registers marks : List ℕ) (s : sound_bench B ≡ true) (b : ByteString B.registers) (f : Fits B.machine registers marks) where
   abbrev Back : ReadOutcome → Type 0
-  Back o = (o.answer ≡ image_reply Done) × Alike B (bench_of o.machine o.seals o.registers o.marks B.memory)
+  Back o = (o.answer ≡ image_done) × Alike B (bench_of o.machine o.seals o.registers o.marks B.memory)
 
   abbrev own : Described
   own = described B.machine B.seals B.registers B.marks
@@ -297,7 +297,7 @@ module _ (B : Bench) (registers marks : List ℕ) (s : sound_bench B ≡ true) (
   own-fits : fitted own registers marks ≡ true
   own-fits = fits-true own registers marks (subst (λ (m : Machine). Fits m registers marks) (sym own-machine) f)
 
-  reads-own : read_image (image_in B) registers marks ≡ restored Done (machine_from own.header) own.header.seals (over (cells_in own) registers) (marks_of (cells_in own))
+  reads-own : read_image (image_in B) registers marks ≡ restored (machine_from own.header) own.header.seals (over (cells_in own) registers) (marks_of (cells_in own))
   unfolding read_image
   reads-own =
       ap (λ (q : Parsed Described). read_as q registers marks) (accepts-parse image_format (image_in B) own (image-accepts B.machine B.seals B.registers B.marks s b))
@@ -321,7 +321,7 @@ module _ (B : Bench) (registers marks : List ℕ) (s : sound_bench B ≡ true) (
 pub written-is-read-back : WrittenIsReadBack
 written-is-read-back B room registers marks s b n f =
     let image : List ℕ = image_in B in
-    let w : write_image B.machine B.seals B.registers B.marks room ≡ write_reply Done (length image) (image ++ drop (length image) room) = write_done B.machine B.seals B.registers B.marks room s n in
+    let w : write_image B.machine B.seals B.registers B.marks room ≡ write_reply (Ok (length image)) (image ++ drop (length image) room) = write_done B.machine B.seals B.registers B.marks room s n in
     let e : take (length image) (image ++ drop (length image) room) ≡ image = take-append_seam image (drop (length image) room) in
     subst (λ (o : WriteOutcome). Back B registers marks s b f (read_image (take o.size o.room) registers marks)) (sym w)
     (subst (λ (z : List ℕ). Back B registers marks s b f (read_image z registers marks)) (sym e) (read_back B registers marks s b f))
@@ -331,4 +331,4 @@ read-is-written-back s registers marks room b h n =
     let o : ReadOutcome = read_image s registers marks in
     let m = read-makes s registers marks b h in
     write_done o.machine o.seals o.registers o.marks room m.not-at-fault (subst (λ (z : List ℕ). length z ≤ length room) (sym m.its-image) n)
-    ∙ ap (λ (z : List ℕ). write_reply Done (length z) (z ++ drop (length z) room)) m.its-image
+    ∙ ap (λ (z : List ℕ). write_reply (Ok (length z)) (z ++ drop (length z) room)) m.its-image

@@ -1,5 +1,5 @@
 -- Computed examples of images.
-use Rattle.std.specs.Prelude.{◌≡◌, ◌∷◌, ◌++◌}
+use Rattle.std.specs.Prelude.{Ok, Err, ◌≡◌, ◌∷◌, ◌++◌}
 use Rattle.numbers.specs.Kit.{refl, true, false, List, [], ℕ, take}
 use Rattle.numbers_format.specs.Numbers.{groups, encode}
 use Rattle.numbers_format.specs.Parser.{is_among, nonempty, read_number, parse}
@@ -7,11 +7,18 @@ use Rattle.image.specs.Cells.{cells_of, runs}
 use Rattle.image.specs.Cells.Run.{run}
 use Rattle.image.specs.Images.{beyond, log2, header_of, spelled}
 use Rattle.image.specs.Answers.{image_reply}
-use Rattle.image.specs.declared.Imaged.TheVariants.{Done, Damaged}
+use Rattle.image.specs.declared.ImageError.TheVariants.{Damaged}
 use Rattle.image.specs.ImageFormat.{top_rlen, top_mlen, least_mlen, mtypes, ranges_format, runs_format, image_format}
-use Rattle.image.specs.Reading.{check_image, read_image}
+use Rattle.image.specs.Reading.{Verdict, check_image, read_image}
 use Rattle.machine.specs.Geometry.{range}
 use Rattle.machine.specs.Starting.{fresh_machine}
+
+-- an input that is an image, and one that is damaged at a place
+abbrev accepted : Verdict
+accepted = Ok tt
+
+abbrev damaged_at : ℕ → Verdict
+damaged_at p = Err (Damaged p)
 
 -- runs of seven bytes: the second starts behind a gap of two
 seven_runs : runs (cells_of (10 ∷ 11 ∷ 12 ∷ 13 ∷ 14 ∷ 15 ∷ 16 ∷ []) (0 ∷ 1 ∷ 1 ∷ 0 ∷ 0 ∷ 1 ∷ 0 ∷ []))
@@ -55,13 +62,13 @@ two_runs = smallest (2 ∷ 0 ∷ 1 ∷ 9 ∷ 1 ∷ 1 ∷ 9 ∷ [])
 checked : check_image (smallest (0 ∷ [])) ∷ check_image (smallest (1 ∷ 0 ∷ 1 ∷ 9 ∷ [])) ∷ check_image (smallest (1 ∷ 255 ∷ 1 ∷ 1 ∷ 9 ∷ []))
     ∷ check_image two_runs ∷ check_image (take 9 two_runs) ∷ check_image (take 10 two_runs) ∷ check_image (take 11 two_runs) ∷ check_image (take 15 two_runs)
     ∷ check_image (smallest (2 ∷ 0 ∷ 1 ∷ 9 ∷ 1 ∷ 1 ∷ 9 ∷ 0 ∷ [])) ∷ []
-    ≡ Done ∷ Done ∷ Done ∷ Done ∷ Damaged 9 ∷ Damaged 10 ∷ Damaged 11 ∷ Damaged 15 ∷ Damaged 16 ∷ []
+    ≡ accepted ∷ accepted ∷ accepted ∷ accepted ∷ damaged_at 9 ∷ damaged_at 10 ∷ damaged_at 11 ∷ damaged_at 15 ∷ damaged_at 16 ∷ []
 unfolding check_image parse read_number is_among nonempty image_format top_rlen top_mlen least_mlen mtypes ranges_format runs_format
 checked = refl
 
 -- of version 2, a rule that is 1; one that is not, seen at once; no rule
 versions : check_image (2 ∷ 1 ∷ 6 ∷ 7 ∷ 0 ∷ 0 ∷ 0 ∷ 0 ∷ 0 ∷ 0 ∷ 0 ∷ []) ∷ check_image (2 ∷ 0 ∷ []) ∷ check_image (2 ∷ 2 ∷ []) ∷ check_image (2 ∷ 129 ∷ []) ∷ check_image (2 ∷ []) ∷ []
-    ≡ Done ∷ Damaged 1 ∷ Damaged 1 ∷ Damaged 1 ∷ Damaged 1 ∷ []
+    ≡ accepted ∷ damaged_at 1 ∷ damaged_at 1 ∷ damaged_at 1 ∷ damaged_at 1 ∷ []
 unfolding check_image parse read_number is_among nonempty image_format top_rlen top_mlen least_mlen mtypes ranges_format runs_format
 versions = refl
 
@@ -70,7 +77,7 @@ versions = refl
 large : check_image (3 ∷ 0 ∷ 5 ∷ 6 ∷ 13 ∷ 0 ∷ 0 ∷ 0 ∷ 0 ∷ 0 ∷ 0 ∷ 0 ∷ []) ∷ check_image (3 ∷ 0 ∷ 5 ∷ 6 ∷ 12 ∷ []) ∷ check_image (3 ∷ 0 ∷ 5 ∷ 10 ∷ 11 ∷ 0 ∷ 0 ∷ 0 ∷ 0 ∷ 0 ∷ 0 ∷ 0 ∷ [])
     ∷ check_image (3 ∷ 1 ∷ 6 ∷ 7 ∷ 8 ∷ 3 ∷ 0 ∷ 0 ∷ 0 ∷ 0 ∷ 0 ∷ 0 ∷ []) ∷ check_image (3 ∷ 1 ∷ 6 ∷ 7 ∷ 8 ∷ 9 ∷ 0 ∷ 0 ∷ 0 ∷ 0 ∷ 0 ∷ 0 ∷ []) ∷ check_image (3 ∷ 1 ∷ 6 ∷ 7 ∷ 8 ∷ 10 ∷ [])
     ∷ check_image (3 ∷ 0 ∷ 6 ∷ 6 ∷ []) ∷ check_image (3 ∷ 0 ∷ 7 ∷ []) ∷ check_image (3 ∷ 2 ∷ []) ∷ check_image (1 ∷ 10 ∷ []) ∷ []
-    ≡ Done ∷ Damaged 4 ∷ Done ∷ Done ∷ Done ∷ Damaged 5 ∷ Damaged 3 ∷ Damaged 2 ∷ Damaged 1 ∷ Damaged 1 ∷ []
+    ≡ accepted ∷ damaged_at 4 ∷ accepted ∷ accepted ∷ accepted ∷ damaged_at 5 ∷ damaged_at 3 ∷ damaged_at 2 ∷ damaged_at 1 ∷ damaged_at 1 ∷ []
 unfolding check_image parse read_number is_among nonempty image_format top_rlen top_mlen least_mlen mtypes ranges_format runs_format
 large = refl
 
@@ -78,7 +85,7 @@ large = refl
 -- have 1 (Six), 2 (Eight), 3 (Ten) or 4 (Twelve). A first group of 1 to 4, behind which another has to follow: in the shortest form (Six) they have no second
 -- group, and a larger number is no version, so that no image goes on at the first byte
 shortest : check_image [] ∷ check_image (1 ∷ []) ∷ check_image (0 ∷ []) ∷ check_image (129 ∷ 0 ∷ []) ∷ check_image (130 ∷ 0 ∷ []) ∷ check_image (131 ∷ 0 ∷ []) ∷ check_image (132 ∷ 0 ∷ []) ∷ []
-    ≡ Damaged 0 ∷ Damaged 1 ∷ Damaged 0 ∷ Damaged 0 ∷ Damaged 0 ∷ Damaged 0 ∷ Damaged 0 ∷ []
+    ≡ damaged_at 0 ∷ damaged_at 1 ∷ damaged_at 0 ∷ damaged_at 0 ∷ damaged_at 0 ∷ damaged_at 0 ∷ damaged_at 0 ∷ []
 unfolding check_image parse read_number is_among nonempty image_format top_rlen top_mlen least_mlen mtypes ranges_format runs_format
 shortest = refl
 
@@ -87,13 +94,13 @@ shortest = refl
 damaged : check_image (5 ∷ []) ∷ check_image (1 ∷ 7 ∷ 7 ∷ []) ∷ check_image (1 ∷ 6 ∷ 7 ∷ 3 ∷ []) ∷ check_image (1 ∷ 6 ∷ 7 ∷ 0 ∷ 3 ∷ [])
     ∷ check_image (smallest (2 ∷ 0 ∷ 1 ∷ 9 ∷ 0 ∷ 1 ∷ 9 ∷ [])) ∷ check_image (smallest (1 ∷ 0 ∷ 0 ∷ []))
     ∷ check_image (smallest (1 ∷ 128 ∷ 2 ∷ 1 ∷ 9 ∷ [])) ∷ check_image (smallest (2 ∷ 254 ∷ 1 ∷ 1 ∷ 9 ∷ [])) ∷ []
-    ≡ Damaged 0 ∷ Damaged 2 ∷ Damaged 3 ∷ Damaged 4 ∷ Damaged 13 ∷ Damaged 11 ∷ Damaged 11 ∷ Damaged 10 ∷ []
+    ≡ damaged_at 0 ∷ damaged_at 2 ∷ damaged_at 3 ∷ damaged_at 4 ∷ damaged_at 13 ∷ damaged_at 11 ∷ damaged_at 11 ∷ damaged_at 10 ∷ []
 unfolding check_image parse read_number is_among nonempty image_format top_rlen top_mlen least_mlen mtypes ranges_format runs_format
 damaged = refl
 
 -- three tile sizes; a tile_k of 7, which only tile_n can be
 small_sized_read : check_image (1 ∷ 6 ∷ 8 ∷ 1 ∷ 3 ∷ 2 ∷ 7 ∷ 0 ∷ 0 ∷ 0 ∷ []) ∷ check_image (1 ∷ 6 ∷ 8 ∷ 1 ∷ 3 ∷ 7 ∷ 2 ∷ 0 ∷ 0 ∷ 0 ∷ []) ∷ []
-    ≡ Done ∷ Damaged 5 ∷ []
+    ≡ accepted ∷ damaged_at 5 ∷ []
 unfolding check_image parse read_number is_among nonempty image_format top_rlen top_mlen least_mlen mtypes ranges_format runs_format
 small_sized_read = refl
 
@@ -118,7 +125,7 @@ sized_image = refl
 sized_read : check_image (3 ∷ 1 ∷ 6 ∷ 8 ∷ 10 ∷ 9 ∷ 3 ∷ 2 ∷ 20 ∷ 5 ∷ 172 ∷ 2 ∷ 2 ∷ 1 ∷ 2 ∷ 11 ∷ 12 ∷ 130 ∷ 1 ∷ 1 ∷ 15 ∷ [])
     ∷ check_image (3 ∷ 1 ∷ 6 ∷ 8 ∷ 10 ∷ 9 ∷ 4 ∷ 4 ∷ 32 ∷ 0 ∷ 0 ∷ 0 ∷ []) ∷ check_image (3 ∷ 1 ∷ 6 ∷ 8 ∷ 10 ∷ 9 ∷ 5 ∷ [])
     ∷ check_image (3 ∷ 1 ∷ 6 ∷ 8 ∷ 10 ∷ 9 ∷ 4 ∷ 5 ∷ []) ∷ check_image (3 ∷ 1 ∷ 6 ∷ 8 ∷ 10 ∷ 9 ∷ 4 ∷ 4 ∷ 33 ∷ []) ∷ []
-    ≡ Done ∷ Done ∷ Damaged 6 ∷ Damaged 7 ∷ Damaged 8 ∷ []
+    ≡ accepted ∷ accepted ∷ damaged_at 6 ∷ damaged_at 7 ∷ damaged_at 8 ∷ []
 unfolding check_image parse read_number is_among nonempty image_format top_rlen top_mlen least_mlen mtypes ranges_format runs_format
 sized_read = refl
 
@@ -152,14 +159,14 @@ several : check_image (fourth (0 ∷ 0 ∷ [])) ∷ check_image (fourth (2 ∷ 5
     ∷ check_image (fourth (1 ∷ 5 ∷ 6 ∷ 0 ∷ [])) ∷ check_image (fourth (9 ∷ [])) ∷ check_image (fourth (130 ∷ 0 ∷ []))
     ∷ check_image (fourth (2 ∷ 254 ∷ 255 ∷ 255 ∷ 255 ∷ 255 ∷ 255 ∷ 255 ∷ 255 ∷ 255 ∷ 1 ∷ 2 ∷ []))
     ∷ check_image (fourth []) ∷ check_image (fourth (2 ∷ [])) ∷ check_image (fourth (2 ∷ 5 ∷ 6 ∷ 7 ∷ [])) ∷ check_image (fourth (2 ∷ 5 ∷ 6 ∷ 7 ∷ 8 ∷ [])) ∷ []
-    ≡ Done ∷ Done ∷ Done ∷ Damaged 9 ∷ Damaged 9 ∷ Damaged 9 ∷ Damaged 20 ∷ Damaged 9 ∷ Damaged 10 ∷ Damaged 13 ∷ Damaged 14 ∷ []
+    ≡ accepted ∷ accepted ∷ accepted ∷ damaged_at 9 ∷ damaged_at 9 ∷ damaged_at 9 ∷ damaged_at 20 ∷ damaged_at 9 ∷ damaged_at 10 ∷ damaged_at 13 ∷ damaged_at 14 ∷ []
 unfolding check_image parse read_number is_among nonempty image_format top_rlen top_mlen least_mlen mtypes ranges_format runs_format
 several = refl
 
 -- version 4 holds any bounds: ELEN 64, MLEN 8,192, and a halving machine of the old ones
 fourth_bounds : check_image (4 ∷ 0 ∷ 6 ∷ 7 ∷ 8 ∷ 3 ∷ 0 ∷ 0 ∷ 0 ∷ 0 ∷ 0 ∷ []) ∷ check_image (4 ∷ 0 ∷ 5 ∷ 6 ∷ 13 ∷ 0 ∷ 0 ∷ 0 ∷ 0 ∷ 0 ∷ 0 ∷ [])
     ∷ check_image (4 ∷ 1 ∷ 5 ∷ 9 ∷ 12 ∷ 0 ∷ 0 ∷ 0 ∷ 0 ∷ 0 ∷ 0 ∷ []) ∷ check_image (4 ∷ 2 ∷ []) ∷ check_image (4 ∷ 0 ∷ 5 ∷ 13 ∷ []) ∷ check_image (4 ∷ 0 ∷ 5 ∷ 9 ∷ 9 ∷ []) ∷ []
-    ≡ Done ∷ Done ∷ Done ∷ Damaged 1 ∷ Damaged 3 ∷ Damaged 4 ∷ []
+    ≡ accepted ∷ accepted ∷ accepted ∷ damaged_at 1 ∷ damaged_at 3 ∷ damaged_at 4 ∷ []
 unfolding check_image parse read_number is_among nonempty image_format top_rlen top_mlen least_mlen mtypes ranges_format runs_format
 fourth_bounds = refl
 
@@ -174,7 +181,7 @@ none : check_image (1 ∷ 6 ∷ 13 ∷ []) ∷ check_image (2 ∷ 1 ∷ 9 ∷ 13
     ∷ check_image (3 ∷ 0 ∷ 5 ∷ 6 ∷ 17 ∷ []) ∷ check_image (3 ∷ 0 ∷ 5 ∷ 10 ∷ 10 ∷ []) ∷ check_image (3 ∷ 0 ∷ 6 ∷ 12 ∷ 12 ∷ [])
     ∷ check_image (3 ∷ 0 ∷ 5 ∷ 6 ∷ 13 ∷ 3 ∷ []) ∷ check_image (3 ∷ 0 ∷ 5 ∷ 6 ∷ 13 ∷ 9 ∷ []) ∷ check_image (3 ∷ 0 ∷ 6 ∷ 7 ∷ 8 ∷ 4 ∷ []) ∷ check_image (3 ∷ 0 ∷ 6 ∷ 7 ∷ 8 ∷ 11 ∷ [])
     ∷ check_image (3 ∷ []) ∷ check_image (3 ∷ 0 ∷ []) ∷ check_image (3 ∷ 0 ∷ 5 ∷ []) ∷ check_image (3 ∷ 0 ∷ 5 ∷ 9 ∷ []) ∷ []
-    ≡ Damaged 2 ∷ Damaged 3 ∷ Damaged 2 ∷ Damaged 3 ∷ Damaged 4 ∷ Damaged 4 ∷ Damaged 4 ∷ Damaged 5 ∷ Damaged 5 ∷ Damaged 5 ∷ Damaged 5
-    ∷ Damaged 1 ∷ Damaged 2 ∷ Damaged 3 ∷ Damaged 4 ∷ []
+    ≡ damaged_at 2 ∷ damaged_at 3 ∷ damaged_at 2 ∷ damaged_at 3 ∷ damaged_at 4 ∷ damaged_at 4 ∷ damaged_at 4 ∷ damaged_at 5 ∷ damaged_at 5 ∷ damaged_at 5 ∷ damaged_at 5
+    ∷ damaged_at 1 ∷ damaged_at 2 ∷ damaged_at 3 ∷ damaged_at 4 ∷ []
 unfolding check_image parse read_number is_among nonempty image_format top_rlen top_mlen least_mlen mtypes ranges_format runs_format
 none = refl

@@ -1,5 +1,5 @@
 -- What is proved of these definitions. The proofs stand in proofs/.
-use Rattle.std.specs.Prelude.{◌≡◌, ◌⊎◌, ◌++◌, ◌≤◌}
+use Rattle.std.specs.Prelude.{Ok, ◌≡◌, ◌⊎◌, ◌++◌, ◌≤◌}
 use Rattle.numbers.specs.Kit.{true, List, ℕ, length, take, drop, get_or}
 use Rattle.numbers_format.specs.Numbers.{ByteString}
 use Rattle.numbers_format.specs.Formats.{Ends, Accepted}
@@ -9,8 +9,8 @@ use Rattle.machine.specs.Setting.{chosen}
 use Rattle.machine.specs.Faults.{sound_bench}
 use Rattle.machine.specs.Alike.{Alike}
 use Rattle.machine.specs.Theorems.{Given, after_all}
-use Rattle.image.specs.declared.Imaged.TheVariants.{Done, BadArguments, Damaged}
-use Rattle.image.specs.Answers.{image_reply}
+use Rattle.image.specs.declared.ImageError.TheVariants.{BadArguments, Damaged}
+use Rattle.image.specs.Answers.{image_done, image_reply}
 use Rattle.image.specs.Cells.{Cell, runs, spread, Fit}
 use Rattle.image.specs.Images.{Seals, image_of, sound_with, IsImage}
 use Rattle.image.specs.ImageFormat.{image_format}
@@ -52,7 +52,7 @@ pub record ReadAnswers (s registers marks : List ℕ) : Type 0 where
   pub is-or-not : IsImage s ⊎ (¬ IsImage s)
   pub fifteen : ¬ IsImage s → (p : ℕ) × ((read_image s registers marks).answer ≡ image_reply (Damaged p)) × Ends IsImage s p
   pub eight : (i : IsImage s) → ¬ Fits i.machine registers marks → (read_image s registers marks).answer ≡ image_reply BadArguments
-  pub nought : (i : IsImage s) → Fits i.machine registers marks → (read_image s registers marks).answer ≡ image_reply Done
+  pub nought : (i : IsImage s) → Fits i.machine registers marks → (read_image s registers marks).answer ≡ image_done
 
 -- of every byte string and all buffers
 abbrev pub ReadIsExact : Type 0
@@ -78,12 +78,12 @@ pub record MakesItsMachine (s lent : List ℕ) (o : ReadOutcome) : Type 0 where
   pub as_lent : (q : ℕ) → get_or o.marks q 0 ≡ 0 → get_or o.registers q 0 ≡ get_or lent q 0
 
 abbrev pub ReadMakesItsMachine : Type 0
-ReadMakesItsMachine = (s registers marks : List ℕ) → ByteString s → let o = read_image s registers marks in o.answer ≡ image_reply Done
+ReadMakesItsMachine = (s registers marks : List ℕ) → ByteString s → let o = read_image s registers marks in o.answer ≡ image_done
     → MakesItsMachine s registers o
 
 -- and no word changes a byte of its sealed ranges, whatever memory it is lent
 abbrev pub SealHoldsFromRead : Type 0
-SealHoldsFromRead = (s registers marks memory : List ℕ) → ByteString s → let o = read_image s registers marks in o.answer ≡ image_reply Done
+SealHoldsFromRead = (s registers marks memory : List ℕ) → ByteString s → let o = read_image s registers marks in o.answer ≡ image_done
     → (ws : List Given) (q : ℕ) → sealed o.seals q ≡ true
     → get_or (after_all chosen ws (bench_of o.machine o.seals o.registers o.marks memory)).memory q 0 ≡ get_or memory q 0
 
@@ -95,10 +95,10 @@ WrittenIsReadBack = (B : Bench) (room registers marks : List ℕ) → sound_benc
     → length (image_in B) ≤ length room → Fits B.machine registers marks
     → let w = write_image B.machine B.seals B.registers B.marks room in
     let o = read_image (take w.size w.room) registers marks in
-    (o.answer ≡ image_reply Done) × Alike B (bench_of o.machine o.seals o.registers o.marks B.memory)
+    (o.answer ≡ image_done) × Alike B (bench_of o.machine o.seals o.registers o.marks B.memory)
 
 -- a machine that was read is written as the bytes that were read
 abbrev pub ReadIsWrittenBack : Type 0
-ReadIsWrittenBack = (s registers marks room : List ℕ) → ByteString s → let o = read_image s registers marks in o.answer ≡ image_reply Done
+ReadIsWrittenBack = (s registers marks room : List ℕ) → ByteString s → let o = read_image s registers marks in o.answer ≡ image_done
     → length s ≤ length room
-    → write_image o.machine o.seals o.registers o.marks room ≡ write_reply Done (length s) (s ++ drop (length s) room)
+    → write_image o.machine o.seals o.registers o.marks room ≡ write_reply (Ok (length s)) (s ++ drop (length s) room)

@@ -1,4 +1,5 @@
 -- The runs of an image from a place on, one run at a time.
+use Rattle.std.specs.Prelude.{Ok, Err}
 use Rattle.numbers.proofs.Kit.{◌≡◌, refl, ap, ◌∙◌, subst, Bool, true, false, cond, List, [], ◌∷◌, ℕ, suc, ◌+◌, ◌-◌, ◌*◌, ◌≤◌, ◌<◌, arith, leb, length, take}
 use Rattle.numbers.proofs.Kit.{drop, leb-true, leb-false}
 use Rattle.numbers_format.specs.Numbers.{span}
@@ -9,7 +10,7 @@ use Rattle.numbers_format.specs.Parser.Parsed.{whole, stopped}
 use Rattle.numbers_coded.specs.At.{Number, number_at}
 use Rattle.numbers_coded.specs.At.Number.{Value, Fault}
 use Rattle.numbers_coded.proofs.FromLaws.{from-number, from-fault, from_bytes, from-short, from_end, from_more, took}
-use Rattle.image.specs.declared.Imaged.TheVariants.{Done, Damaged}
+use Rattle.image.specs.declared.ImageError.TheVariants.{Damaged}
 use Rattle.image.specs.Cells.{Run}
 use Rattle.image.specs.Cells.Run.{run}
 use Rattle.image.specs.ImageFormat.{Described, runs_format}
@@ -39,11 +40,11 @@ abbrev gap_then : ℕ → ℕ → ℕ → Format Described
 gap_then l room g = number (span 1 (room - (g + 2 * l))) (size_then l room g)
 
 module _ (s : List ℕ) (at least room : ℕ) where
-  pub runs-end : (l : ℕ) → l ≡ 0 → length s ≤ at → runs_verdict s at l least room ≡ Done
+  pub runs-end : (l : ℕ) → l ≡ 0 → length s ≤ at → runs_verdict s at l least room ≡ Ok tt
   unfolding runs_verdict runs_from runs_format
   runs-end l e h = rw (e, runs_format) (ap verdict_of (from_end s at (plain []) h))
 
-  pub runs-trail : (l : ℕ) → l ≡ 0 → at < length s → runs_verdict s at l least room ≡ Damaged at
+  pub runs-trail : (l : ℕ) → l ≡ 0 → at < length s → runs_verdict s at l least room ≡ Err (Damaged at)
   unfolding runs_verdict runs_from runs_format
   runs-trail l e h = rw (e, runs_format) (ap verdict_of (from_more s at (plain []) h))
 
@@ -52,7 +53,7 @@ module _ (s : List ℕ) (at least room : ℕ) where
     unfolding runs_from runs_format
     first = rw (el, runs_format)
 
-    gap-wrong : (p : ℕ) → number_at s at least (room - (1 + 2 * l)) ≡ Fault p → runs_verdict s at left least room ≡ Damaged p
+    gap-wrong : (p : ℕ) → number_at s at least (room - (1 + 2 * l)) ≡ Fault p → runs_verdict s at left least room ≡ Err (Damaged p)
     unfolding runs_verdict
     gap-wrong p e = ap verdict_of (first ∙ from-fault s at least (room - (1 + 2 * l)) p (gap_then l room) e)
 
@@ -60,7 +61,7 @@ module _ (s : List ℕ) (at least room : ℕ) where
       second : runs_from s at left least room ≡ from (gap_then l room g) s a
       second = first ∙ from-number s at least (room - (1 + 2 * l)) g a (gap_then l room) e
 
-      length-wrong : (p : ℕ) → number_at s a 1 (room - (g + 2 * l)) ≡ Fault p → runs_verdict s at left least room ≡ Damaged p
+      length-wrong : (p : ℕ) → number_at s a 1 (room - (g + 2 * l)) ≡ Fault p → runs_verdict s at left least room ≡ Err (Damaged p)
       unfolding runs_verdict
       length-wrong p e2 = ap verdict_of (second ∙ from-fault s a 1 (room - (g + 2 * l)) p (size_then l room g) e2)
 
@@ -68,7 +69,7 @@ module _ (s : List ℕ) (at least room : ℕ) where
         third : runs_from s at left least room ≡ from (size_then l room g n) s b
         third = second ∙ from-number s a 1 (room - (g + 2 * l)) n b (size_then l room g) e2
 
-        bytes-short : b ≤ length s → length s < b + n → runs_verdict s at left least room ≡ Damaged (length s)
+        bytes-short : b ≤ length s → length s < b + n → runs_verdict s at left least room ≡ Err (Damaged (length s))
         unfolding runs_verdict
         bytes-short h k = ap verdict_of (third ∙ from-short s b n (λ z. runs_format (λ rs. plain (run g z ∷ rs)) l 1 (room - (g + n))) h k)
 
@@ -89,7 +90,7 @@ pub record RunOk (s : List ℕ) (at left least room gap size a : ℕ) : Type 0 w
 
 abbrev NextOk : List ℕ → (at left least room : ℕ) → Next → Type 0
 NextOk s at left least room (NextRun gap size a) = RunOk s at left least room gap size a
-NextOk s at left least room (NextBad p) = runs_verdict s at left least room ≡ Damaged p
+NextOk s at left least room (NextBad p) = runs_verdict s at left least room ≡ Err (Damaged p)
 
 module _ (s : List ℕ) (at left least room : ℕ) (there : at ≤ length s) (more : 0 < left) (small : least ≤ 1) (room-ok : least + 2 * left ≤ room + 1) where
   abbrev others : ℕ
@@ -129,7 +130,7 @@ module _ (s : List ℕ) (at left least room : ℕ) (there : at ≤ length s) (mo
       go (Value g a) e = at_size g a e (number_at s a 1 (room - (g + 2 * others))) refl
       go (Fault p) e = gap-wrong s at least room left others is-left p e
 
-  pub next-bad : (p : ℕ) → next_at s at left least room ≡ NextBad p → runs_verdict s at left least room ≡ Damaged p
+  pub next-bad : (p : ℕ) → next_at s at left least room ≡ NextBad p → runs_verdict s at left least room ≡ Err (Damaged p)
   next-bad p e = subst (NextOk s at left least room) e next-right
 
   pub next_known : (gap size a : ℕ) → next_at s at left least room ≡ NextRun gap size a → RunOk s at left least room gap size a

@@ -1,8 +1,10 @@
 -- The loops of a scan: one turn, what they keep, and what the runs that were read say of the image.
+use Rattle.std.specs.Prelude.{Ok, Err}
 use Rattle.numbers.proofs.Kit.{◌≡◌, refl, sym, ap, ◌∙◌, subst, Bool, true, false, cond, List, ℕ, zero, suc, ◌+◌, ◌-◌, ◌*◌, ◌^◌, ◌≤◌, ◌<◌, min, arith, eqb}
 use Rattle.numbers.proofs.Kit.{ltb, length, lt-ltb, le-ltb, ltb-true, ltb-false, eq-eqb, ne_eqb, eqb-true}
-use Rattle.image.specs.declared.Imaged.{Imaged}
-use Rattle.image.specs.declared.Imaged.TheVariants.{Done, Damaged}
+use Rattle.image.specs.declared.ImageError.TheVariants.{Damaged}
+use Rattle.numbers_coded.specs.declared.Damage.{Damage}
+use Rattle.image.specs.Reading.{Verdict}
 use Rattle.image_header.specs.declared.Fields.{Fields}
 use Rattle.image_check.specs.declared.runs.RunRead.{RunRead}
 use Rattle.image_check.specs.declared.runs.Runs.{Runs}
@@ -27,13 +29,13 @@ pub least-one : (k : ℕ) → min k 1 ≤ 1
 least-one k = omega arith
 
 -- what the code has of a run
-pub run-good : (r : RunRead) (q : Next) → r ≡ plain_run q → r.good ≡ true → q ≡ NextRun r.gap r.size r.at
-run-good r (NextRun g n a) e i = cc
-run-good r (NextBad p) e i = let z : ◌≡◌ {A = ℕ} 0 1 = ap (λ (b : Bool). cond b 1 0) (sym (ap (λ (x : RunRead). x.good) e) ∙ i) in absurd (omega arith)
+pub run-good : (q : Next) {r : RunRead} → Ok r ≡ plain_run q → q ≡ NextRun r.gap r.size r.at
+run-good (NextRun g n a) e = cc
+run-good (NextBad p) e = let z : ◌≡◌ {A = ℕ} 0 1 = cc in absurd (omega arith)
 
-pub run-bad : (r : RunRead) (q : Next) → r ≡ plain_run q → r.good ≡ false → q ≡ NextBad r.at
-run-bad r (NextRun g n a) e i = let z : ◌≡◌ {A = ℕ} 0 1 = ap (λ (b : Bool). cond b 1 0) (sym i ∙ ap (λ (x : RunRead). x.good) e) in absurd (omega arith)
-run-bad r (NextBad p) e i = cc
+pub run-bad : (q : Next) {d : Damage} → Err d ≡ plain_run q → q ≡ NextBad d.at
+run-bad (NextRun g n a) e = let z : ◌≡◌ {A = ℕ} 0 1 = cc in absurd (omega arith)
+run-bad (NextBad p) e = cc
 
 module _ (s : List ℕ) where
   pub run-less : (at : ℕ) (t : Runs) → 0 < t.left → (run_from s at t).left < t.left
@@ -107,13 +109,13 @@ module _ (s : List ℕ) where
   behind-read = behind-ok
 
   -- what they say of the image
-  abbrev pub run_verdict : ℕ → Runs → Imaged
-  run_verdict count t = cond (eqb t.kept count) (cond (eqb t.place (length s)) Done (Damaged t.place)) (Damaged t.place)
+  abbrev pub run_verdict : ℕ → Runs → Verdict
+  run_verdict count t = cond (eqb t.kept count) (cond (eqb t.place (length s)) (Ok tt) (Err (Damaged t.place))) (Err (Damaged t.place))
 
   none_left : (t : Runs) → t.left ≡ 0 → t.at ≤ length s → t.place ≡ t.at → run_verdict t.kept t ≡ runs_verdict s t.at t.left (min t.kept 1) t.room
   none_left t e there same = rw (eq-eqb t.kept t.kept refl, same) (go (ltb t.at (length s)) refl)
     where
-      go : (u : Bool) → ltb t.at (length s) ≡ u → cond (eqb t.at (length s)) Done (Damaged t.at) ≡ runs_verdict s t.at t.left (min t.kept 1) t.room
+      go : (u : Bool) → ltb t.at (length s) ≡ u → cond (eqb t.at (length s)) (Ok tt) (Err (Damaged t.at)) ≡ runs_verdict s t.at t.left (min t.kept 1) t.room
       go true i =
           let l : t.at < length s = ltb-true t.at (length s) i in
           rw (ne_eqb t.at (length s) (λ x. omega (arith, x, l))) (sym (runs-trail s t.at (min t.kept 1) t.room t.left e l))
@@ -152,7 +154,7 @@ module _ (s : List ℕ) where
           ∙ few
           ∙ sym (next-bad s t.at t.left (min t.kept 1) t.room k.0 some (omega arith) k.1 p i)
         where
-          few : run_verdict count (runs_of 0 t.kept t.room t.at p) ≡ Damaged p
+          few : run_verdict count (runs_of 0 t.kept t.room t.at p) ≡ Err (Damaged p)
           few = rw (ne_eqb t.kept count (λ x. omega (arith, x, many, e)))
 
   pub verdict-runs : (count room at : ℕ) → at ≤ length s → Sound (runs_of count 0 room at at) → run_verdict count (runs_all s count (runs_of count 0 room at at)) ≡ runs_verdict s at count 0 room

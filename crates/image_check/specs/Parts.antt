@@ -1,10 +1,10 @@
 -- What the parts of a check find, from a place of the input on.
-use Rattle.std.specs.Prelude.{◌+◌, ◌-◌, ◌*◌, ◌^◌, ◌≤◌, ◌<◌}
-use Rattle.numbers.specs.Kit.{Bool, true, false, cond, List, ℕ, zero, suc, min, eqb, leb, ltb, length}
+use Rattle.std.specs.Prelude.{Result, Ok, Err, ◌+◌, ◌-◌, ◌*◌, ◌^◌, ◌≤◌, ◌<◌}
+use Rattle.numbers.specs.Kit.{cond, List, ℕ, zero, suc, min, eqb, leb, ltb, length}
+use Rattle.numbers_coded.specs.declared.Damage.{Damage}
 use Rattle.numbers_coded.specs.At.{number_at}
-use Rattle.image.specs.declared.Imaged.{Imaged}
-use Rattle.image.specs.declared.Imaged.TheVariants.{Done, BadArguments, NoRoom, Damaged}
-use Rattle.image.specs.Reading.{verdict_of}
+use Rattle.image.specs.declared.ImageError.TheVariants.{Damaged}
+use Rattle.image.specs.Reading.{Verdict, verdict_of}
 use Rattle.image_header.specs.declared.Fields.{Fields}
 use Rattle.image_header.specs.Fields.{onward, runs_from, fields_in}
 use Rattle.image_check.specs.declared.runs.RunRead.{RunRead}
@@ -18,9 +18,9 @@ pub data Next : Type 0 where
   NextRun : ℕ → ℕ → ℕ → Next
   NextBad : ℕ → Next
 
-abbrev pub plain_run : Next → RunRead
-plain_run (NextRun gap size at) = record { good = true; gap = gap; size = size; at = at }
-plain_run (NextBad p) = record { good = false; gap = 0; size = 0; at = p }
+abbrev pub plain_run : Next → Result RunRead Damage
+plain_run (NextRun gap size at) = Ok (record { gap = gap; size = size; at = at })
+plain_run (NextBad p) = Err (record { at = p })
 
 -- the next of so many runs in room bytes, whose gap is at least least
 unfoldable pub next_at : (s : List ℕ) (at left least room : ℕ) → Next
@@ -59,19 +59,12 @@ unfoldable pub scan_in : List ℕ → Scanned
 scan_in s = record { fields = fields_in s; runs = runs_all s (runs_behind (fields_in s)).left (runs_behind (fields_in s)) }
 
 -- whether that is an image of so many bytes, or the place of the fault
-unfoldable pub verdict_in : Scanned → ℕ → Imaged
+unfoldable pub verdict_in : Scanned → ℕ → Verdict
 verdict_in t size =
     cond (eqb t.fields.next 12)
-    (cond (eqb t.runs.kept t.fields.runs) (cond (eqb t.runs.place size) Done (Damaged t.runs.place)) (Damaged t.runs.place))
-    (Damaged t.runs.place)
+    (cond (eqb t.runs.kept t.fields.runs) (cond (eqb t.runs.place size) (Ok tt) (Err (Damaged t.runs.place))) (Err (Damaged t.runs.place)))
+    (Err (Damaged t.runs.place))
 
 -- whether they are there, or the place of a fault
-unfoldable pub runs_verdict : (s : List ℕ) (at count least room : ℕ) → Imaged
+unfoldable pub runs_verdict : (s : List ℕ) (at count least room : ℕ) → Verdict
 runs_verdict s at count least room = verdict_of (runs_from s at count least room)
-
--- nothing is refused: the number is 0
-abbrev pub image_done : Imaged → Bool
-image_done Done = true
-image_done BadArguments = false
-image_done NoRoom = false
-image_done (Damaged place) = false

@@ -1,34 +1,20 @@
 // The runs of an image.
 ghost use Rattle.std.specs.Prelude.{◌≡◌, ◌+◌, ◌*◌, ◌^◌, ◌≤◌, ◌<◌, length};
 ghost use Rattle.image_check.specs.Parts.{plain_run, next_at, RunsOk, run_from};
-ghost use Rattle.image_check.specs.Parts.Next.{NextBad};
 
 use numbers::smaller;
-use numbers_coded::number_at;
+use numbers_coded::{Damage, number_at};
 
-// The gap and the length of a run and the place of its bytes, all of which are there; or that it is not there, and the place of the fault.
+// The gap and the length of a run and the place of its bytes, all of which are there.
 #[derive(Clone, Copy)]
 pub struct RunRead {
-    pub good: bool,
     pub gap: u64,
     pub size: u64,
     pub at: usize,
 }
 
-// No run, and the place of the fault.
-fn no_run(at: usize) -> RunRead
-    ensures { result ≡ plain_run (NextBad at) }
-{
-    RunRead {
-        good: false,
-        gap: 0,
-        size: 0,
-        at: at,
-    }
-}
-
 // The next of so many runs in so many bytes of room.
-pub fn next_run(s: &[u8], at: usize, left: u64, least: u64, room: u64) -> RunRead
+pub fn next_run(s: &[u8], at: usize, left: u64, least: u64, room: u64) -> Result<RunRead, Damage>
     requires at_in_bounds { at ≤ length s.now }
     requires left_nonzero { 0 < left }
     requires least_bound { least ≤ 1 }
@@ -37,23 +23,16 @@ pub fn next_run(s: &[u8], at: usize, left: u64, least: u64, room: u64) -> RunRea
     ensures { result ≡ plain_run (next_at s.now at left least room) }
 {
     let later = 2 * (left - 1);
-    let gap = number_at(s, at, least, room - (1 + later));
-    if !gap.good {
-        return no_run(gap.at);
-    }
-    let size = number_at(s, gap.at, 1, room - (gap.value + later));
-    if !size.good {
-        return no_run(size.at);
-    }
+    let gap = number_at(s, at, least, room - (1 + later))?;
+    let size = number_at(s, gap.at, 1, room - (gap.value + later))?;
     if s.len() - size.at < size.value as usize {
-        return no_run(s.len());
+        return Err(Damage { at: s.len() });
     }
-    RunRead {
-        good: true,
+    Ok(RunRead {
         gap: gap.value,
         size: size.value,
         at: size.at,
-    }
+    })
 }
 
 // The runs read so far: how many are left to read, none behind a fault; how many are there whole, and the place behind them; the bytes of room
@@ -72,16 +51,18 @@ pub fn run_from(s: &[u8], at: usize, t: Runs) -> Runs
     requires { (0 < t.left) × RunsOk s.now at t }
     ensures { result ≡ run_from s.now at t }
 {
-    let run = next_run(s, at, t.left, smaller(t.kept, 1), t.room);
-    if !run.good {
-        return Runs {
-            left: 0,
-            kept: t.kept,
-            room: t.room,
-            at: at,
-            place: run.at,
-        };
-    }
+    let run = match next_run(s, at, t.left, smaller(t.kept, 1), t.room) {
+        Ok(run) => run,
+        Err(damage) => {
+            return Runs {
+                left: 0,
+                kept: t.kept,
+                room: t.room,
+                at,
+                place: damage.at,
+            };
+        }
+    };
     let end = run.at + run.size as usize;
     Runs {
         left: t.left - 1,

@@ -13,7 +13,8 @@ use Rattle.image.specs.Images.{Header}
 use Rattle.image.specs.ImageFormat.{Described, top_rlen, top_mlen, least_mlen, mtypes, ranges_format, counts, head_format, image_format}
 use Rattle.image.proofs.ImageLaws.{top-mlen}
 use Rattle.image_header.specs.declared.Fields.{Fields}
-use Rattle.image_header.specs.Fields.{Place, onward, mtype_at, count_at, ranges_end, ranges_found, placed, ranges_at, fields_of, first_field, row, row_at, row_of, number_in, put_field, after, moved_to, field_read, with_row, field_from, fields_all, read_in, fields_in, machine_of, numbers_of}
+use Rattle.image_header.specs.declared.Row.TheVariants.{Span}
+use Rattle.image_header.specs.Fields.{Place, onward, mtype_at, count_at, ranges_end, ranges_found, placed, ranges_at, fields_of, first_field, row_at, row_of, number_in, put_field, after, moved_to, field_read, with_row, field_from, fields_all, read_in, fields_in, machine_of, numbers_of}
 use Rattle.image_header.specs.Fields.Place.{Behind, PlaceBad}
 use Rattle.image_header.proofs.HeadLaws.{HeadedOk, runs_part, count_part, seals_part, tiles_part, body_part}
 use Rattle.image_header.proofs.HeadLaws.{EndOk, ranges-right, parts}
@@ -36,7 +37,7 @@ from-eleven n h l = omega arith
 pub last-field : (n : ℕ) → n < 12 → Last n → n ≡ 11
 last-field n l r = from-eleven n (up n 10 (up n 9 (up n 8 (up n 7 (up n 6 (up n 5 (up n 4 (up n 3 (up n 2 (up n 1 (up n 0 (zero-le n) r.0.0.0.0.0.0.0.0.0.0.1) r.0.0.0.0.0.0.0.0.0.1) r.0.0.0.0.0.0.0.0.1) r.0.0.0.0.0.0.0.1) r.0.0.0.0.0.0.1) r.0.0.0.0.0.1) r.0.0.0.0.1) r.0.0.0.1) r.0.0.1) r.0.1) r.1) l
 
-pub row_last : (t : Fields) (x : ℕ) → x ≡ 2 ^ t.mlen → Last t.next → row 0 0 x ≡ row_of t
+pub row_last : (t : Fields) (x : ℕ) → x ≡ 2 ^ t.mlen → Last t.next → Span 0 x ≡ row_of t
 unfolding row_at
 row_last t x e r = rw (
   e,

@@ -1,4 +1,5 @@
 -- The header of an image, part by part: from what was read at each place to what the parser finds from there on.
+use Rattle.std.specs.Prelude.{Ok, Err}
 use Rattle.numbers.proofs.Kit.{◌≡◌, refl, sym, ap, ◌∙◌, ◌⊎◌, inl, inr, Bool, true, false, cond, ◌&&◌, List, [], ◌∷◌, ℕ, zero, suc, ◌+◌, ◌-◌, ◌*◌, ◌/◌, ◌^◌}
 use Rattle.numbers.proofs.Kit.{◌≤◌, ◌<◌, max, arith, leb, ltb, eqb, length, drop, get_or, drop_of_length-le, drop-cons, pow_mono, lt-ltb, le-ltb, le-leb}
 use Rattle.numbers.proofs.Kit.{lt-leb, eq-eqb, ne_eqb}
@@ -10,6 +11,7 @@ use Rattle.numbers_format.specs.Parser.{is_among, nonempty, grow, read_number, p
 use Rattle.numbers_format.specs.Parser.Parsed.{stopped}
 use Rattle.numbers_format.proofs.NumberLaws.{reads-last, reads_more, read-empty}
 use Rattle.machine.specs.declared.Machine.{Machine}
+use Rattle.numbers_coded.specs.declared.Damage.{Damage}
 use Rattle.numbers_coded.specs.At.{Number, found, number_at}
 use Rattle.numbers_coded.specs.At.Number.{Value, Fault}
 use Rattle.numbers_coded.proofs.FromLaws.{from-number, from-fault, from_start, took}
@@ -175,13 +177,13 @@ module _ (s : List ℕ) (at : ℕ) where
     count-some d = rw begins (ap (found at) (sym (counts_same b (drop (suc at) s) d)))
 
 -- what the code has of a range
-pub range-good : (r : RangeRead) (q : Pair) → r ≡ plain_range q → r.good ≡ true → q ≡ Both r.start r.size r.at
-range-good r (Both x y a) e g = cc
-range-good r (PairBad p) e g = let z : ◌≡◌ {A = ℕ} 0 1 = ap (λ (b : Bool). cond b 1 0) (sym (ap (λ (x : RangeRead). x.good) e) ∙ g) in absurd (omega arith)
+pub range-good : (q : Pair) {r : RangeRead} → Ok r ≡ plain_range q → q ≡ Both r.start r.size r.at
+range-good (Both x y a) e = cc
+range-good (PairBad p) e = let z : ◌≡◌ {A = ℕ} 0 1 = cc in absurd (omega arith)
 
-pub range-bad : (r : RangeRead) (q : Pair) → r ≡ plain_range q → r.good ≡ false → q ≡ PairBad r.at
-range-bad r (Both x y a) e g = let z : ◌≡◌ {A = ℕ} 0 1 = ap (λ (b : Bool). cond b 1 0) (sym g ∙ ap (λ (x : RangeRead). x.good) e) in absurd (omega arith)
-range-bad r (PairBad p) e g = cc
+pub range-bad : (q : Pair) {d : Damage} → Err d ≡ plain_range q → q ≡ PairBad d.at
+range-bad (Both x y a) e = let z : ◌≡◌ {A = ℕ} 0 1 = cc in absurd (omega arith)
+range-bad (PairBad p) e = cc
 
 -- so many ranges, one after the other
 pub ranges-none : (s : List ℕ) (n at : ℕ) → n ≤ 0 → Behind at ≡ ranges_end s n at

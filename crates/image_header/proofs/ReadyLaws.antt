@@ -1,34 +1,37 @@
 -- The exponents of a header stay some that are permitted, and the row of the next field is there.
+use Rattle.std.specs.Prelude.{Ok, Err}
 use Rattle.numbers.proofs.Kit.{◌≡◌, refl, sym, ap, ◌∙◌, subst, Bool, true, false, cond, List, ℕ, zero, suc, ◌-◌, ◌^◌, ◌≤◌, ◌<◌, min, arith, eqb}
 use Rattle.numbers.proofs.Kit.{ltb, ltb-true, eqb-true}
-use Rattle.numbers_coded.specs.declared.Reading.{Reading}
+use Rattle.numbers_coded.specs.declared.Coded.{Coded}
+use Rattle.numbers_coded.specs.declared.Damage.{Damage}
 use Rattle.numbers_coded.specs.At.{Number, plain}
 use Rattle.numbers_coded.specs.At.Number.{Value, Fault}
 use Rattle.numbers_coded.proofs.FromLaws.{good-is, bad-is, took}
 use Rattle.image.specs.ImageFormat.{top_rlen, top_mlen, least_mlen}
 use Rattle.image.proofs.ImageLaws.{top-rlen, top-mlen, least_above}
 use Rattle.image_header.specs.declared.Fields.{Fields}
+use Rattle.image_header.specs.declared.Row.TheVariants.{Span, Mtype, Count, Ranges}
 use Rattle.image_header.specs.declared.Row.{Row}
-use Rattle.image_header.specs.Fields.{onward, first_field, FieldsOk, Ready, least_rule, row, row_at, row_of, fields_with, RowOk, number_in, put_field, after, moved_to, field_read, with_row, field_from, fields_all, read_in, fields_in}
+use Rattle.image_header.specs.Fields.{onward, first_field, FieldsOk, Ready, least_rule, row_at, row_of, fields_with, RowOk, number_in, put_field, after, moved_to, field_read, with_row, field_from, fields_all, read_in, fields_in}
 use Rattle.image_header.proofs.FieldLaws.{after_more}
 
 pub row_ok : (t : Fields) → FieldsOk t → RowOk (row_of t)
 unfolding row_at
 row_ok t ok = go (eqb t.next 0) (eqb t.next 1) (eqb t.next 2) (eqb t.next 3) (eqb t.next 4) (eqb t.next 5) (eqb t.next 6) (eqb t.next 7) (eqb t.next 8) (eqb t.next 9) (eqb t.next 10)
   where
-    go : (a b c d e f g h i j k : Bool) → RowOk (cond a (row 0 1 4) (cond b (row 0 (least_rule t.version) 1) (cond c (row 0 5 6) (cond d (row 0 (suc t.elen) (top_rlen t.version)) (cond e (row 0 (least_mlen t.version t.elen t.rlen) (top_mlen t.version)) (cond f (row 1 t.elen 0) (cond g (row 0 0 (2 ^ (t.mlen - t.rlen))) (cond h (row 0 0 (min (2 ^ (t.mlen - t.rlen)) (2 ^ (t.rlen - 3)))) (cond i (row 0 0 (2 ^ (t.rlen - 3))) (cond j (row 2 0 0) (cond k (row 3 t.seals 0) (row 0 0 (2 ^ t.mlen)))))))))))))
-    go true b c d e f g h i j k = λ x. absurd (omega (arith, x))
-    go false true c d e f g h i j k = λ x. absurd (omega (arith, x))
-    go false false true d e f g h i j k = λ x. absurd (omega (arith, x))
-    go false false false true e f g h i j k = λ x. absurd (omega (arith, x))
-    go false false false false true f g h i j k = λ x. absurd (omega (arith, x))
-    go false false false false false true g h i j k = λ _. ok.elen-ok
-    go false false false false false false true h i j k = λ x. absurd (omega (arith, x))
-    go false false false false false false false true i j k = λ x. absurd (omega (arith, x))
-    go false false false false false false false false true j k = λ x. absurd (omega (arith, x))
-    go false false false false false false false false false true k = λ x. absurd (omega (arith, x))
-    go false false false false false false false false false false true = λ x. absurd (omega (arith, x))
-    go false false false false false false false false false false false = λ x. absurd (omega (arith, x))
+    go : (a b c d e f g h i j k : Bool) → RowOk (cond a (Span 1 4) (cond b (Span (least_rule t.version) 1) (cond c (Span 5 6) (cond d (Span (suc t.elen) (top_rlen t.version)) (cond e (Span (least_mlen t.version t.elen t.rlen) (top_mlen t.version)) (cond f (Mtype t.elen) (cond g (Span 0 (2 ^ (t.mlen - t.rlen))) (cond h (Span 0 (min (2 ^ (t.mlen - t.rlen)) (2 ^ (t.rlen - 3)))) (cond i (Span 0 (2 ^ (t.rlen - 3))) (cond j Count (cond k (Ranges t.seals) (Span 0 (2 ^ t.mlen)))))))))))))
+    go true b c d e f g h i j k = tt
+    go false true c d e f g h i j k = tt
+    go false false true d e f g h i j k = tt
+    go false false false true e f g h i j k = tt
+    go false false false false true f g h i j k = tt
+    go false false false false false true g h i j k = ok.elen-ok
+    go false false false false false false true h i j k = tt
+    go false false false false false false false true i j k = tt
+    go false false false false false false false false true j k = tt
+    go false false false false false false false false false true k = tt
+    go false false false false false false false false false false true = tt
+    go false false false false false false false false false false false = tt
 
 module _ (s : List ℕ) (at : ℕ) (t : Fields) (low : t.next < 12) (ready : Ready t) (n a : ℕ) (read : number_in s at t.row ≡ Value n a) where
   ok : FieldsOk t
@@ -89,21 +92,21 @@ module _ (s : List ℕ) (at : ℕ) (t : Fields) (low : t.next < 12) (ready : Rea
       go-most false i l = ready.mlen-most (omega arith)
 
 -- one field, as the code has it
-module _ (s : List ℕ) (at : ℕ) (t : Fields) (n : Reading) (is : n ≡ plain (number_in s at t.row)) where
-  pub field-bad : n.good ≡ false → moved_to 13 n.at t ≡ field_from s at t
+module _ (s : List ℕ) (at : ℕ) (t : Fields) where
+  pub field-bad : {d : Damage} → Err d ≡ plain (number_in s at t.row) → moved_to 13 d.at t ≡ field_from s at t
   unfolding field_from
-  field-bad g = rw (bad-is n (number_in s at t.row) is g)
+  field-bad is = rw (bad-is (number_in s at t.row) is)
 
-  module _ (g : n.good ≡ true) (x : Fields) (ex : x ≡ put_field t n.value) (next : ℕ) (en : next ≡ after t.next x.version) where
+  module _ (n : Coded) (is : Ok n ≡ plain (number_in s at t.row)) (x : Fields) (ex : x ≡ put_field t n.value) (next : ℕ) (en : next ≡ after t.next x.version) where
     read_is : moved_to next n.at x ≡ field_read t n.value n.at
     read_is = rw (en, ex)
 
     pub field-sizes : t.next < 12 → Ready t → FieldsOk (moved_to next n.at x)
-    field-sizes low ready = subst FieldsOk (sym read_is) (put-ok s at t low ready n.value n.at (good-is n (number_in s at t.row) is g))
+    field-sizes low ready = subst FieldsOk (sym read_is) (put-ok s at t low ready n.value n.at (good-is (number_in s at t.row) is))
 
     pub field-good : (w : Row) → w ≡ row_of (moved_to next n.at x) → fields_with w next n.at x.version x.rule x.elen x.rlen x.mlen x.mtype x.tile_m x.tile_k x.tile_n x.seals x.seals_at x.runs ≡ field_from s at t
     unfolding field_from
-    field-good w ew = rw (good-is n (number_in s at t.row) is g, ew, en, ex)
+    field-good w ew = rw (good-is (number_in s at t.row) is, ew, en, ex)
 
 pub field-ready : (s : List ℕ) (at : ℕ) (t : Fields) → t.next < 12 → Ready t → Ready (field_from s at t)
 unfolding field_from

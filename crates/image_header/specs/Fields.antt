@@ -1,7 +1,8 @@
 -- What the parts of a header are read as, from a place of the input on.
-use Rattle.std.specs.Prelude.{◌≡◌, ◌∷◌, ◌+◌, ◌-◌, ◌^◌, ◌≤◌, ◌<◌}
-use Rattle.numbers.specs.Kit.{true, false, cond, List, [], ℕ, zero, suc, min, eqb, ltb, drop}
+use Rattle.std.specs.Prelude.{Result, Ok, Err, ◌≡◌, ◌∷◌, ◌+◌, ◌-◌, ◌^◌, ◌≤◌, ◌<◌}
+use Rattle.numbers.specs.Kit.{cond, List, [], ℕ, zero, suc, min, eqb, ltb, drop}
 use Rattle.numbers_format.specs.Parser.{read_number, Parsed, from}
+use Rattle.numbers_coded.specs.declared.Damage.{Damage}
 use Rattle.numbers_coded.specs.At.{Number, found, number_at}
 use Rattle.numbers_coded.specs.At.Number.{Value, Fault}
 use Rattle.machine.specs.declared.Machine.{Machine}
@@ -11,6 +12,7 @@ use Rattle.image.specs.Images.{Seals, Header}
 use Rattle.image.specs.ImageFormat.{Described, top_rlen, top_mlen, least_mlen, mtypes, counts, runs_format}
 use Rattle.image_header.specs.declared.Fields.{Fields}
 use Rattle.image_header.specs.declared.Row.{Row}
+use Rattle.image_header.specs.declared.Row.TheVariants.{Span, Mtype, Count, Ranges}
 use Rattle.image_header.specs.declared.RangeRead.{RangeRead}
 
 -- what follows a number and the place behind it, or the place of its fault
@@ -35,9 +37,9 @@ pub data Pair : Type 0 where
   Both : ℕ → ℕ → ℕ → Pair
   PairBad : ℕ → Pair
 
-abbrev pub plain_range : Pair → RangeRead
-plain_range (Both start size at) = record { good = true; start = start; size = size; at = at }
-plain_range (PairBad p) = record { good = false; start = 0; size = 0; at = p }
+abbrev pub plain_range : Pair → Result RangeRead Damage
+plain_range (Both start size at) = Ok (record { start = start; size = size; at = at })
+plain_range (PairBad p) = Err (record { at = p })
 
 -- two numbers, each up to its most; that of the second by the first
 abbrev pub pair_at : List ℕ → (at most : ℕ) (most_of : ℕ → ℕ) → Pair
@@ -79,27 +81,24 @@ ranges_at s count at = placed at (ranges_end s count at)
 
 -- ---- the fields of a header
 
-abbrev pub row : (kind low high : ℕ) → Row
-row kind low high = record { kind = kind; low = low; high = high }
-
 abbrev pub least_rule : ℕ → ℕ
 least_rule version = cond (eqb version 2) 1 0
 
 -- what a field may be, by its number and by what was read
 unfoldable pub row_at : (next version elen rlen mlen seals : ℕ) → Row
 row_at next version elen rlen mlen seals =
-    cond (eqb next 0) (row 0 1 4)
-    (cond (eqb next 1) (row 0 (least_rule version) 1)
-    (cond (eqb next 2) (row 0 5 6)
-    (cond (eqb next 3) (row 0 (suc elen) (top_rlen version))
-    (cond (eqb next 4) (row 0 (least_mlen version elen rlen) (top_mlen version))
-    (cond (eqb next 5) (row 1 elen 0)
-    (cond (eqb next 6) (row 0 0 (2 ^ (mlen - rlen)))
-    (cond (eqb next 7) (row 0 0 (min (2 ^ (mlen - rlen)) (2 ^ (rlen - 3))))
-    (cond (eqb next 8) (row 0 0 (2 ^ (rlen - 3)))
-    (cond (eqb next 9) (row 2 0 0)
-    (cond (eqb next 10) (row 3 seals 0)
-    (row 0 0 (2 ^ mlen))))))))))))
+    cond (eqb next 0) (Span 1 4)
+    (cond (eqb next 1) (Span (least_rule version) 1)
+    (cond (eqb next 2) (Span 5 6)
+    (cond (eqb next 3) (Span (suc elen) (top_rlen version))
+    (cond (eqb next 4) (Span (least_mlen version elen rlen) (top_mlen version))
+    (cond (eqb next 5) (Mtype elen)
+    (cond (eqb next 6) (Span 0 (2 ^ (mlen - rlen)))
+    (cond (eqb next 7) (Span 0 (min (2 ^ (mlen - rlen)) (2 ^ (rlen - 3))))
+    (cond (eqb next 8) (Span 0 (2 ^ (rlen - 3)))
+    (cond (eqb next 9) Count
+    (cond (eqb next 10) (Ranges seals)
+    (Span 0 (2 ^ mlen))))))))))))
 
 -- what the next field may be
 abbrev pub row_of : Fields → Row
@@ -145,15 +144,19 @@ pub record Ready (t : Fields) : Type 0 where
   pub mlen-most : t.next ≤ 4 → t.mlen ≡ 16
   pub row_is : t.next < 12 → t.row ≡ row_of t
 
+-- the exponent of ELEN in the row of an mtype is one of its two
 abbrev pub RowOk : Row → Type 0
-RowOk r = r.kind ≡ 1 → (5 ≤ r.low) × (r.low ≤ 6)
+RowOk (Span low high) = Unit {0}
+RowOk (Mtype elen) = (5 ≤ elen) × (elen ≤ 6)
+RowOk Count = Unit {0}
+RowOk (Ranges count) = Unit {0}
 
 -- the number at a place, of those of a row
 unfoldable pub number_in : List ℕ → ℕ → Row → Number
-number_in s at r =
-    cond (eqb r.kind 0) (number_at s at r.low r.high)
-    (cond (eqb r.kind 1) (mtype_at s r.low at)
-    (cond (eqb r.kind 2) (count_at s at) (ranges_at s r.low at)))
+number_in s at (Span low high) = number_at s at low high
+number_in s at (Mtype elen) = mtype_at s elen at
+number_in s at Count = count_at s at
+number_in s at (Ranges count) = ranges_at s count at
 
 -- the fields with n for the next
 unfoldable pub put_field : Fields → ℕ → Fields
@@ -197,7 +200,7 @@ read_in s = fields_all s 12 first_field
 
 -- without a row
 abbrev pub rested : Fields → Fields
-rested t = fields_with (row 0 0 0) t.next t.at t.version t.rule t.elen t.rlen t.mlen t.mtype t.tile_m t.tile_k t.tile_n t.seals t.seals_at t.runs
+rested t = fields_with (Span 0 0) t.next t.at t.version t.rule t.elen t.rlen t.mlen t.mtype t.tile_m t.tile_k t.tile_n t.seals t.seals_at t.runs
 
 unfoldable pub fields_in : List ℕ → Fields
 fields_in s = rested (read_in s)

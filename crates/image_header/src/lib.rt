@@ -5,33 +5,34 @@
 ghost use Rattle.std.specs.Prelude.{◌≡◌, ◌^◌, ◌≤◌, ◌<◌};
 ghost use Rattle.image.specs.ImageFormat.{top_rlen, top_mlen, least_mlen};
 ghost use Rattle.numbers_coded.specs.At.{plain};
-ghost use Rattle.image_header.specs.Fields.{mtype_at, count_at, plain_range, range_at, ranges_at, least_rule, row, row_of, RowOk, number_in, put_field, after, field_from, first_field, FieldsOk, Ready, rested, machine_of};
-ghost use Rattle.image_header.specs.Fields.Pair.{PairBad};
+ghost use Rattle.image_header.specs.Fields.{mtype_at, count_at, plain_range, range_at, ranges_at, least_rule, row_of, RowOk, number_in, put_field, after, field_from, first_field, FieldsOk, Ready, rested, machine_of};
 
 use machine::Machine;
 use numbers::smaller;
-use numbers_coded::{Reading, fault, found, number_at, wide};
+use numbers_coded::{Coded, Damage, number_at};
 
 // The number behind the last field, and the one that stands for a fault.
 pub const ALL_READ: usize = 12;
 
 const AT_FAULT: usize = 13;
 
-// What may stand in a field, by the kind.
+// What may stand in a field.
 #[derive(Clone, Copy)]
-pub struct Row {
-    pub kind: u64,
-    pub low: u64,
-    pub high: u64,
+pub enum Row {
+    Span { low: u64, high: u64 }, // a number from low to high
+    Mtype { elen: u64 }, // an mtype, by the exponent of ELEN
+    Count, // how many ranges there are
+    Ranges { count: u64 }, // so many ranges: the number is their place
 }
 
-const SPAN: u64 = 0; // a number from low to high
-
-const MTYPE: u64 = 1; // an mtype, where low is the exponent of ELEN
-
-const COUNT: u64 = 2; // how many ranges there are
-
-const RANGES: u64 = 3; // so many ranges, low of them: the number is their place
+impl Row {
+    // A number from low to high.
+    fn span(low: u64, high: u64) -> Row
+        ensures { result ≡ Row.Span low high }
+    {
+        Row::Span { low, high }
+    }
+}
 
 // The fields read so far: the number of the next one and its row, and the place behind them; at a fault the place of it. A field that is not
 // read yet, or that the version does not have, is what it is in `first_field`.
@@ -54,10 +55,9 @@ pub struct Fields {
     pub runs: u64, // 11: and how many runs
 }
 
-// A range of an image: whether it is there, and the place behind it, or that of the fault.
+// A range of an image, and the place behind it.
 #[derive(Clone, Copy)]
 pub struct RangeRead {
-    pub good: bool,
     pub start: u64,
     pub size: u64,
     pub at: usize,
@@ -95,92 +95,76 @@ fn least_mlen(version: u64, elen: u64, rlen: u64) -> u64
 }
 
 // The mtype at a place of s, by the exponent of ELEN.
-fn mtype_at(s: &[u8], elen: u64, at: usize) -> Reading
+fn mtype_at(s: &[u8], elen: u64, at: usize) -> Result<Coded, Damage>
     requires { (5 ≤ elen) × (elen ≤ 6) }
     ensures { result ≡ plain (mtype_at s.now elen at) }
 {
     if at < s.len() {
-        let b = wide(s[at]);
+        let b = u64::from(s[at]);
         if b < 128 {
             if b <= elen - 3 {
-                return found(b, at + 1);
+                return Ok(Coded {
+                    value: b,
+                    at: at + 1,
+                });
             }
             if b < 8 {
-                return fault(at);
+                return Err(Damage { at });
             }
             if b <= 8 + (elen - 5) {
-                return found(b, at + 1);
+                return Ok(Coded {
+                    value: b,
+                    at: at + 1,
+                });
             }
-            return fault(at);
+            return Err(Damage { at });
         }
         if b == 128 {
             return number_at(s, at, 0x8000_0000_0000_0000, 0x8000_0000_0000_0000);
         }
-        return fault(at);
+        return Err(Damage { at });
     }
-    fault(at)
+    Err(Damage { at })
 }
 
 // The number of ranges of version 4: none, or two to eight.
-fn count_at(s: &[u8], at: usize) -> Reading
+fn count_at(s: &[u8], at: usize) -> Result<Coded, Damage>
     ensures { result ≡ plain (count_at s.now at) }
 {
     if at < s.len() {
-        if wide(s[at]) == 1 {
-            return fault(at);
+        if u64::from(s[at]) == 1 {
+            return Err(Damage { at });
         }
         return number_at(s, at, 0, 8);
     }
-    fault(at)
+    Err(Damage { at })
 }
 
 // A range's start and length.
-pub fn range_at(s: &[u8], at: usize) -> RangeRead
+pub fn range_at(s: &[u8], at: usize) -> Result<RangeRead, Damage>
     ensures { result ≡ plain_range (range_at s.now at) }
 {
-    let start = number_at(s, at, 0, 0xffff_ffff_ffff_ffff);
-    if !start.good {
-        return no_range(start.at);
-    }
-    let size = number_at(s, start.at, 0, 0xffff_ffff_ffff_ffff - start.value);
-    if !size.good {
-        return no_range(size.at);
-    }
-    RangeRead {
-        good: true,
+    let start = number_at(s, at, 0, 0xffff_ffff_ffff_ffff)?;
+    let size = number_at(s, start.at, 0, 0xffff_ffff_ffff_ffff - start.value)?;
+    Ok(RangeRead {
         start: start.value,
         size: size.value,
         at: size.at,
-    }
-}
-
-// No range, and the place of the fault.
-fn no_range(at: usize) -> RangeRead
-    ensures { result ≡ plain_range (PairBad at) }
-{
-    RangeRead {
-        good: false,
-        start: 0,
-        size: 0,
-        at: at,
-    }
+    })
 }
 
 // So many ranges: their place, and the one behind them.
-fn ranges_at(s: &[u8], count: u64, start: usize) -> Reading
+fn ranges_at(s: &[u8], count: u64, start: usize) -> Result<Coded, Damage>
     ensures { result ≡ plain (ranges_at s.now count start) }
 {
     let mut at = start;
-    let mut left = count;
-    while 0 < left {
-        let range = range_at(s, at);
-        if !range.good {
-            return fault(range.at);
-        }
-        at = range.at;
-        left = left - 1;
+    for _ in 0..count {
+        at = range_at(s, at)?.at;
     }
-    found(start as u64, at)
+    Ok(Coded {
+        value: start as u64,
+        at,
+    })
 }
 
 // Two to the power of k.
@@ -198,58 +182,38 @@ fn least_rule(version: u64) -> u64
     if version == 2 { 1 } else { 0 }
 }
 
-// A row of the table.
-fn permitted(kind: u64, low: u64, high: u64) -> Row
-    ensures { result ≡ row kind low high }
-{
-    Row {
-        kind: kind,
-        low: low,
-        high: high,
-    }
-}
-
 // The row of the next field.
 fn row_of(t: Fields) -> Row
     requires { FieldsOk t }
     ensures { result ≡ row_of t }
 {
-    let next = t.next;
-    match next {
-        0 => permitted(SPAN, 1, 4),
-        1 => permitted(SPAN, least_rule(t.version), 1),
-        2 => permitted(SPAN, 5, 6),
-        3 => permitted(SPAN, t.elen + 1, top_rlen(t.version)),
-        4 => permitted(
-            SPAN,
-            least_mlen(t.version, t.elen, t.rlen),
-            top_mlen(t.version),
-        ),
-        5 => permitted(MTYPE, t.elen, 0),
-        6 => permitted(SPAN, 0, power(t.mlen - t.rlen)),
-        7 => permitted(SPAN, 0, smaller(power(t.mlen - t.rlen), power(t.rlen - 3))),
-        8 => permitted(SPAN, 0, power(t.rlen - 3)),
-        9 => permitted(COUNT, 0, 0),
-        10 => permitted(RANGES, t.seals, 0),
-        _ => permitted(SPAN, 0, power(t.mlen)),
+    match t.next {
+        0 => Row::span(1, 4),
+        1 => Row::span(least_rule(t.version), 1),
+        2 => Row::span(5, 6),
+        3 => Row::span(t.elen + 1, top_rlen(t.version)),
+        4 => Row::span(least_mlen(t.version, t.elen, t.rlen), top_mlen(t.version)),
+        5 => Row::Mtype { elen: t.elen },
+        6 => Row::span(0, power(t.mlen - t.rlen)),
+        7 => Row::span(0, smaller(power(t.mlen - t.rlen), power(t.rlen - 3))),
+        8 => Row::span(0, power(t.rlen - 3)),
+        9 => Row::Count,
+        10 => Row::Ranges { count: t.seals },
+        _ => Row::span(0, power(t.mlen)),
     }
 }
 
 // The number at a place of s, of those of a row.
-fn number_in(s: &[u8], at: usize, row: Row) -> Reading
+fn number_in(s: &[u8], at: usize, row: Row) -> Result<Coded, Damage>
     requires { RowOk row }
     ensures { result ≡ plain (number_in s.now at row) }
 {
-    if row.kind == SPAN {
-        return number_at(s, at, row.low, row.high);
+    match row {
+        Row::Span { low, high } => number_at(s, at, low, high),
+        Row::Mtype { elen } => mtype_at(s, elen, at),
+        Row::Count => count_at(s, at),
+        Row::Ranges { count } => ranges_at(s, count, at),
     }
-    if row.kind == MTYPE {
-        return mtype_at(s, row.low, at);
-    }
-    if row.kind == COUNT {
-        return count_at(s, at);
-    }
-    ranges_at(s, row.low, at)
 }
 
 // The fields with the next one.
@@ -257,8 +221,7 @@ fn put_field(t: Fields, n: u64) -> Fields
     requires { t.next < 12 }
     ensures { result ≡ put_field t n }
 {
-    let next = t.next;
-    match next {
+    match t.next {
         0 => Fields { version: n, ..t },
         1 => Fields { rule: n, ..t },
         2 => Fields { elen: n, ..t },
@@ -296,14 +259,16 @@ pub fn field_from(s: &[u8], at: usize, t: Fields) -> Fields
     requires { (t.next < 12) × Ready t }
     ensures { result ≡ field_from s.now at t }
 {
-    let n = number_in(s, at, t.row);
-    if !n.good {
-        return Fields {
-            next: AT_FAULT,
-            at: n.at,
-            ..t
-        };
-    }
+    let n = match number_in(s, at, t.row) {
+        Ok(n) => n,
+        Err(damage) => {
+            return Fields {
+                next: AT_FAULT,
+                at: damage.at,
+                ..t
+            };
+        }
+    };
     let x = put_field(t, n.value);
     let y = Fields {
         next: after(t.next, x.version),
@@ -321,7 +286,7 @@ pub fn first_field() -> Fields
     ensures { result ≡ first_field }
 {
     Fields {
-        row: permitted(SPAN, 1, 4),
+        row: Row::span(1, 4),
         next: 0,
         at: 0,
         version: 0,
@@ -344,7 +309,7 @@ pub fn rested(t: Fields) -> Fields
     ensures { result ≡ rested t }
 {
     Fields {
-        row: permitted(SPAN, 0, 0),
+        row: Row::span(0, 0),
         ..t
     }
 }

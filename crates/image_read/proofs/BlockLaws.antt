@@ -1,33 +1,38 @@
 -- What a return of the entry point has to show.
-use Rattle.numbers.proofs.Kit.{◌≡◌, sym, ap, ◌∙◌, Bool, cond, List, ℕ, length, eq-eqb, ne_eqb}
-use Rattle.machine.specs.declared.Machine.{Machine}
-use Rattle.machine.specs.Starting.{no_machine}
+use Rattle.std.specs.Prelude.{Ok, Err}
+use Rattle.numbers.proofs.Kit.{◌≡◌, refl, ap, ◌∙◌, List, ℕ, length, eq-eqb, ne_eqb}
 use Rattle.unit_ranges.specs.Ranges.{block_bytes, put_seals}
-use Rattle.image.specs.declared.Imaged.{Imaged}
-use Rattle.image.specs.Reading.{check_image, read_image}
+use Rattle.image.specs.declared.ImageError.{ImageError}
+use Rattle.image.specs.declared.ImageError.TheVariants.{BadArguments, NoRoom, Damaged}
+use Rattle.image.specs.Reading.{Verdict, check_image, read_image}
 use Rattle.image_header.specs.Fields.{ranges_found}
-use Rattle.image_check.specs.Parts.{image_done}
-use Rattle.image_check.proofs.CheckLaws.{done-number}
 use Rattle.image_read.specs.declared.Found.{Found}
 use Rattle.image_read.specs.Blocks.{restored_as, block_refused, into_block, read_block}
 use Rattle.image_read.specs.Parts.{found_as}
 
 module _ (image block registers marks : List ℕ) where
   -- a block of another length
-  pub block-short : (v w : Imaged) (m : Machine) → ¬ (length block ≡ block_bytes) → v ≡ check_image image → w ≡ block_refused v → m ≡ no_machine
-      → restored_as (record { answer = w; machine = m }) block registers marks ≡ read_block image block registers marks
+  pub block-short : (v : Verdict) → ¬ (length block ≡ block_bytes) → v ≡ check_image image
+      → restored_as (Err (block_refused v)) block registers marks ≡ read_block image block registers marks
   unfolding read_block
-  block-short v w m h ev ew em = rw (em, ew, ev, ne_eqb (length block) block_bytes h)
+  block-short v h ev = rw (ev, ne_eqb (length block) block_bytes h)
 
-  -- a read, done or not
-  pub block_read : (t : Bool) (f : Found) (block' registers' marks' : List ℕ) → length block ≡ block_bytes
-      → found_as f image registers' marks' ≡ read_image image registers marks → image_done f.answer ≡ t
-      → block' ≡ cond t (put_seals (ranges_found image f.seals f.seals_at) block) block
-      → restored_as (record { answer = f.answer; machine = f.machine }) block' registers' marks' ≡ read_block image block registers marks
-  unfolding read_block
-  block_read t f block' registers' marks' h e d eb =
-      ap (λ (b : List ℕ). restored_as (record { answer = f.answer; machine = f.machine }) b registers' marks')
-      (eb ∙ ap (λ (t : Bool). cond t (put_seals (ranges_found image f.seals f.seals_at) block) block) (sym d ∙ done-number f.answer))
-      ∙ ap (into_block block) e
-      ∙ ap (λ (t : Bool). cond t (into_block block (read_image image registers marks)) (restored_as (record { answer = block_refused (check_image image); machine = no_machine }) block registers marks))
-      (sym (eq-eqb (length block) block_bytes h))
+  module _ (h : length block ≡ block_bytes) (registers' marks' : List ℕ) where
+    whole_block : into_block block (read_image image registers marks) ≡ read_block image block registers marks
+    unfolding read_block
+    whole_block = rw (eq-eqb (length block) block_bytes h)
+
+    -- a read that is done
+    pub block_read : (f : Found) (block' : List ℕ) → found_as (Ok f) image registers' marks' ≡ read_image image registers marks
+        → block' ≡ put_seals (ranges_found image f.seals f.seals_at) block → restored_as (Ok f.machine) block' registers' marks' ≡ read_block image block registers marks
+    block_read f block' e eb = ap (λ (b : List ℕ). restored_as (Ok f.machine) b registers' marks') eb ∙ ap (into_block block) e ∙ whole_block
+
+    -- one that is refused
+    pub block_unread : (e : ImageError) → found_as (Err e) image registers' marks' ≡ read_image image registers marks
+        → restored_as (Err e) block registers' marks' ≡ read_block image block registers marks
+    block_unread e is = same e ∙ ap (into_block block) is ∙ whole_block
+      where
+        same : (e : ImageError) → restored_as (Err e) block registers' marks' ≡ into_block block (found_as (Err e) image registers' marks')
+        same BadArguments = refl
+        same NoRoom = refl
+        same (Damaged p) = refl

@@ -1,4 +1,5 @@
 -- Filling runs into lent registers and marks, run by run.
+use Rattle.std.specs.Prelude.{Ok, Err}
 use Rattle.numbers.proofs.Kit.{◌≡◌, refl, sym, ap, ap₂, ◌∙◌, subst, Bool, true, false, List, [], ◌∷◌, ◌++◌, map, append_assoc, none, some, ℕ, zero, suc}
 use Rattle.numbers.proofs.Kit.{◌+◌, ◌-◌, ◌≤◌, arith, ltb, length, take, drop, replicate, length-append, length-drop, length-replicate, take-append-drop}
 use Rattle.numbers.proofs.Kit.{sets, sets-eq, length-sets, drop-drop, take-add, take_at, drop_at, length-take-le, ltb-true, ltb-false}
@@ -8,9 +9,9 @@ use Rattle.numbers_format.specs.Parser.Parsed.{whole, stopped}
 use Rattle.numbers_coded.proofs.FromLaws.{from_end, from_more}
 use Rattle.image.specs.Cells.{Cell, Run, spread, Fit, over, marks_of}
 use Rattle.image.specs.Cells.Run.{run}
-use Rattle.image.specs.declared.Imaged.TheVariants.{Done, Damaged}
+use Rattle.image.specs.declared.ImageError.TheVariants.{Damaged}
 use Rattle.image.specs.ImageFormat.{Described, runs_format}
-use Rattle.image.specs.Reading.{verdict_of}
+use Rattle.image.specs.Reading.{Verdict, verdict_of}
 use Rattle.image_header.specs.Fields.{runs_from}
 use Rattle.image_check.specs.Parts.{runs_verdict}
 use Rattle.image_header.proofs.BodyLaws.{mapped}
@@ -121,7 +122,7 @@ marks-ones least n (run g b ∷ rs) h =
 
 -- ---- the runs that are left, where all are there
 
-pub damaged-done : (p : ℕ) → Damaged p ≡ Done → ⊥
+pub damaged-done : (p : ℕ) → ◌≡◌ {A = Verdict} (Err (Damaged p)) (Ok tt) → ⊥
 damaged-done p e = let z : ◌≡◌ {A = ℕ} 0 1 = cc in absurd (omega arith)
 
 -- none
@@ -134,7 +135,7 @@ body_end s at least room l e = rw (e, runs_format) (go (ltb at (length s)) refl)
     go false h = ap body_of (from_end s at (plain []) (ltb-false at (length s) h))
 
 -- the next run, and the others
-body-next : (s : List ℕ) (at left least room gap size a : ℕ) → RunOk s at left least room gap size a → runs_verdict s at left least room ≡ Done
+body-next : (s : List ℕ) (at left least room gap size a : ℕ) → RunOk s at left least room gap size a → runs_verdict s at left least room ≡ Ok tt
     → body_at s at left least room ≡ run gap (take size (drop a s)) ∷ body_at s (a + size) (left - 1) 1 (room - (gap + size))
 unfolding body_at runs_verdict
 body-next s at left least room gap size a r k = ap body_of r.step ∙ go (runs_from s (a + size) (left - 1) 1 (room - (gap + size))) refl
@@ -145,7 +146,7 @@ body-next s at left least room gap size a r k = ap body_of r.step ∙ go (runs_f
 
 -- ---- one turn of the code's loop: the next run is filled in, and the others are left
 module _ (s regs marks : List ℕ) (at left least to gap size a : ℕ) (fits : to ≤ length regs) (same : length marks ≡ length regs) (next : RunOk s at left least (length regs - to) gap size a)
-    (sound : runs_verdict s at left least (length regs - to) ≡ Done) where
+    (sound : runs_verdict s at left least (length regs - to) ≡ Ok tt) where
   abbrev bytes_of : List ℕ
   bytes_of = take size (drop a s)
 
@@ -171,8 +172,8 @@ module _ (s regs marks : List ℕ) (at left least to gap size a : ℕ) (fits : t
     left_is : length regs - to - (gap + size) ≡ length regs' - (to + gap + size)
     left_is = room-is ∙ ap (λ (x : ℕ). x - (to + gap + size)) (sym length-regs)
 
-    pub still-done : runs_verdict s (a + size) (left - 1) 1 (length regs' - (to + gap + size)) ≡ Done
-    still-done = subst (λ (x : ℕ). runs_verdict s (a + size) (left - 1) 1 x ≡ Done) left_is (sym (run-next s at left least (length regs - to) gap size a next) ∙ sound)
+    pub still-done : runs_verdict s (a + size) (left - 1) 1 (length regs' - (to + gap + size)) ≡ Ok tt
+    still-done = subst (λ (x : ℕ). runs_verdict s (a + size) (left - 1) 1 x ≡ Ok tt) left_is (sym (run-next s at left least (length regs - to) gap size a next) ∙ sound)
 
     pub regs-filled : filled to (body_at s at left least (length regs - to)) regs ≡ filled (to + gap + size) (body_at s (a + size) (left - 1) 1 (length regs' - (to + gap + size))) regs'
     regs-filled =

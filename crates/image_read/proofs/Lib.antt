@@ -1,5 +1,4 @@
 -- Laws for the code: setting marks, filling the runs in, and the entry point.
-pub mod MarkLaws
 pub mod FillLaws
 pub mod ReadLaws
 pub mod SealLaws

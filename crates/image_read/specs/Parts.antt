@@ -1,14 +1,15 @@
 -- What the parts of a read leave.
-use Rattle.std.specs.Prelude.{◌∷◌, ◌≤◌}
+use Rattle.std.specs.Prelude.{Result, Ok, Err, ◌∷◌, ◌≤◌}
 use Rattle.numbers.specs.Kit.{List, [], ℕ, suc, length, replicate}
 use Rattle.numbers_format.specs.Parser.{Parsed}
 use Rattle.numbers_format.specs.Parser.Parsed.{whole, stopped}
 use Rattle.unit_ranges.specs.Ranges.{put_range}
+use Rattle.image.specs.declared.ImageError.{ImageError}
 use Rattle.image.specs.Cells.{Run}
 use Rattle.image.specs.Cells.Run.{run}
 use Rattle.image.specs.Images.{Seals}
 use Rattle.image.specs.ImageFormat.{Described}
-use Rattle.image.specs.Reading.{ReadOutcome, restored}
+use Rattle.image.specs.Reading.{ReadOutcome, restored, not_restored}
 use Rattle.image_header.specs.Fields.Place.{Behind, PlaceBad}
 use Rattle.image_header.specs.Fields.{Place, ranges_end, ranges_found, runs_from}
 use Rattle.image_read.specs.declared.Found.{Found}
@@ -44,5 +45,6 @@ put_ranges i [] block = block
 put_ranges i (r ∷ rs) block = put_ranges (suc i) rs (put_range i r block)
 
 -- what was read before the block is written
-abbrev pub found_as : Found → (s registers marks : List ℕ) → ReadOutcome
-found_as r s registers marks = restored r.answer r.machine (ranges_found s r.seals r.seals_at) registers marks
+abbrev pub found_as : Result Found ImageError → (s registers marks : List ℕ) → ReadOutcome
+found_as (Ok found) s registers marks = restored found.machine (ranges_found s found.seals found.seals_at) registers marks
+found_as (Err e) s registers marks = not_restored e registers marks

@@ -5,7 +5,7 @@ ghost use Rattle.image_header.specs.Fields.{ranges_found};
 ghost use Rattle.image_read.specs.Parts.{Stand, put_ranges};
 
 use image_header::range_at;
-use unit_element::write8;
+use unit_element::Element;
 use unit_ranges::{clear_slots, put_range};
 
 // Puts the ranges that stand at a place of an image into the first slots.
@@ -15,15 +15,12 @@ fn put_ranges(s: &[u8], first: usize, count: usize, block: &mut [u8])
     ensures { block.new ≡ put_ranges 0 (ranges_found s.now count first) block.old }
 {
     let mut at = first;
-    let mut i: usize = 0;
-    while i < count {
-        let range = range_at(s, at);
-        if !range.good {
+    for i in 0..count {
+        let Ok(range) = range_at(s, at) else {
             return;
-        }
+        };
         put_range(block, i, range.start, range.size);
         at = range.at;
-        i += 1;
     }
 }
 
@@ -33,7 +30,7 @@ pub fn put_seals(s: &[u8], first: usize, count: u64, block: &mut [u8])
     requires stand { Stand s.now count first }
     ensures { block.new ≡ put_seals (ranges_found s.now count first) block.old }
 {
-    write8(block, 80, count);
+    u64::write(block, 80, count);
     put_ranges(s, first, count as usize, block);
     clear_slots(block, count as usize);
 }

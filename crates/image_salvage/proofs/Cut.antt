@@ -15,7 +15,6 @@ use Rattle.numbers_format.proofs.FormatLaws.{accepts-parse, ends-one, bytes_take
 use Rattle.machine.specs.declared.Machine.{Machine}
 use Rattle.machine.specs.Geometry.{register_bytes, Bench}
 use Rattle.machine.specs.Faults.{sound_bench}
-use Rattle.image.specs.declared.Imaged.TheVariants.{Done}
 use Rattle.image.specs.Cells.{Cell, cell, cells_of, Run, runs, spread, Fit, over, marks_of}
 use Rattle.image.specs.Cells.Run.{run}
 use Rattle.image.specs.Images.{Header, exponent, header_of, machine_from, spelled, IsImage}
@@ -147,7 +146,7 @@ module _ (B : Bench) (sb : sound_bench B ≡ true) (b : ByteString B.registers) 
       unfolding left fresh
       fresh-accepted = kept-accepted (place_in cut) own k (keeps k e) (image_in B) own-accepted
 
-      reads : read_image fresh registers marks ≡ restored Done (machine_from k.header) k.header.seals (over (cells_in left) registers) (marks_of (cells_in left))
+      reads : read_image fresh registers marks ≡ restored (machine_from k.header) k.header.seals (over (cells_in left) registers) (marks_of (cells_in left))
       unfolding read_image left
       reads =
           ap (λ (q : Parsed Described). read_as q registers marks) (accepts-parse image_format fresh left fresh-accepted)

@@ -18,7 +18,7 @@ use Rattle.numbers_format.proofs.FormatLaws.{accepts-parse}
 use Rattle.machine.specs.declared.Machine.{Machine}
 use Rattle.numbers_coded.proofs.FromLaws.{from_start, from_bytes, from_end}
 use Rattle.numbers_coded.proofs.SizeLaws.{size-bound}
-use Rattle.image.specs.declared.Imaged.TheVariants.{Done, NoRoom, Damaged}
+use Rattle.image.specs.declared.ImageError.TheVariants.{NoRoom, Damaged}
 use Rattle.image.specs.Cells.{Run}
 use Rattle.image.specs.Cells.Run.{run}
 use Rattle.image.specs.Images.{Header, version, fields, runs_bytes, spelled}
@@ -36,6 +36,7 @@ use Rattle.image_salvage.specs.Salvage.{fault_place, place_in, Announced, announ
 use Rattle.image_salvage.specs.Parts.{Tally, place_at, kept_at, tally_at, fresh_at, rescued}
 use Rattle.image_salvage.proofs.FrontLaws.{bytes_drop, take-before, front-ahead, onto}
 use Rattle.image_salvage.proofs.KeepLaws.{run-bytes, kept-ahead, kept-stuck, follows, head-then, stopped-never, whole-one, runs_of_lem, unlater, place-later}
+use Rattle.image.specs.Answers.{image_done, image_reply}
 use Rattle.image_salvage.proofs.Keeps.{accepts-bytes, behind_head, head-parses, place-ends}
 
 -- ---- the bytes of the runs that are kept
@@ -115,19 +116,19 @@ module _ (s : List ℕ) (at count all_register_bytes : ℕ) (b : ByteString s) (
 
   module _ (room : List ℕ) where
     pub rescue-short : (size : ℕ) → size ≡ length (fresh_at s at count all_register_bytes) → length room < size
-        → salvaged NoRoom 0 0 (place_at s at count 0 all_register_bytes) 0 room ≡ rescued s at count all_register_bytes room
+        → salvaged (image_reply NoRoom) 0 0 (place_at s at count 0 all_register_bytes) 0 room ≡ rescued s at count all_register_bytes room
     unfolding rescued
     rescue-short size e h = rw (lt-leb (length (fresh_at s at count all_register_bytes)) (length room) (omega (arith, e)))
 
     pub rescue-done : (size : ℕ) → size ≡ length (fresh_at s at count all_register_bytes) → size ≤ length room → (left : List ℕ) → left ≡ sets room 0 (fresh_at s at count all_register_bytes)
-        → salvaged Done (length runs_of) count (place_at s at count 0 all_register_bytes) size left ≡ rescued s at count all_register_bytes room
+        → salvaged image_done (length runs_of) count (place_at s at count 0 all_register_bytes) size left ≡ rescued s at count all_register_bytes room
     unfolding rescued
     rescue-done size e h left r =
         let fresh : List ℕ = fresh_at s at count all_register_bytes in
         let fits : length fresh ≤ length room = omega (arith, e) in
         let z : 0 + length fresh ≡ length fresh = omega arith in
         rw (le-leb (length fresh) (length room) fits)
-        (ap₂ (λ (x : ℕ) (y : List ℕ). salvaged Done (length runs_of) count (place_at s at count 0 all_register_bytes) x y) e
+        (ap₂ (λ (x : ℕ) (y : List ℕ). salvaged image_done (length runs_of) count (place_at s at count 0 all_register_bytes) x y) e
         (r ∙ sets-eq fresh room 0 (omega arith) ∙ ap (λ (x : ℕ). fresh ++ drop x room) z))
 
 -- the same, by what the code found
@@ -139,13 +140,13 @@ module _ (s : List ℕ) (at count all_register_bytes : ℕ) (b : ByteString s) (
       ap (λ (x : ℕ). at - k + n + (x - at)) end ∙ fresh-size s at count all_register_bytes b there k ek first n (en ∙ ap (λ (x : ℕ). length (encode x)) runs)
 
   module _ (room : List ℕ) where
-    pub tally-short : length room < at - k + n + (r.end - at) → salvaged NoRoom 0 0 r.place 0 room ≡ rescued s at count all_register_bytes room
+    pub tally-short : length room < at - k + n + (r.end - at) → salvaged (image_reply NoRoom) 0 0 r.place 0 room ≡ rescued s at count all_register_bytes room
     tally-short h =
-        ap (λ (x : Tally). salvaged NoRoom 0 0 x.place 0 room) e
+        ap (λ (x : Tally). salvaged (image_reply NoRoom) 0 0 x.place 0 room) e
         ∙ rescue-short s at count all_register_bytes b there room (at - k + n + (r.end - at)) size_is h
 
     pub tally-done : at - k + n + (r.end - at) ≤ length room → (left : List ℕ) → left ≡ sets room 0 (take (at - k) s ++ (encode r.runs ++ take (r.end - at) (drop at s)))
-        → salvaged Done r.runs count r.place (at - k + n + (r.end - at)) left ≡ rescued s at count all_register_bytes room
+        → salvaged image_done r.runs count r.place (at - k + n + (r.end - at)) left ≡ rescued s at count all_register_bytes room
     tally-done h left is =
         let rs : List Run = kept_at s at count 0 all_register_bytes in
         let runs : r.runs ≡ length rs = ap (λ (x : Tally). x.runs) e in
@@ -153,7 +154,7 @@ module _ (s : List ℕ) (at count all_register_bytes : ℕ) (b : ByteString s) (
         let fresh : take (at - k) s ++ (encode r.runs ++ take (r.end - at) (drop at s)) ≡ fresh_at s at count all_register_bytes =
         ap₂ (λ (x y : ℕ). take (at - x) s ++ (encode y ++ take (r.end - at) (drop at s))) ek runs
         ∙ ap (λ (z : List ℕ). take (at - length (encode count)) s ++ (encode (length rs) ++ z)) (kept-bytes s at count all_register_bytes b there (r.end - at) (omega arith)) in
-        ap (λ (x : Tally). salvaged Done x.runs count x.place (at - k + n + (r.end - at)) left) e
+        ap (λ (x : Tally). salvaged image_done x.runs count x.place (at - k + n + (r.end - at)) left) e
         ∙ rescue-done s at count all_register_bytes b there room (at - k + n + (r.end - at)) size_is h left (is ∙ ap (sets room 0) fresh)
 
 pub sets-append : (a t room : List ℕ) (at : ℕ) → sets room at (a ++ t) ≡ sets (sets room at a) (at + length a) t
@@ -219,7 +220,7 @@ module _ (s : List ℕ) (b : ByteString s) where
           ap (later k) (tells r a.header a.count (drop k s) (length-drop k s)) in
           absurd (stopped-never (describe a.header (replicate a.count (run 0 []))) H.at (sym one ∙ two ∙ three))
 
-  pub salvage-bad : (H : Fields) → H ≡ fields_in s → (room : List ℕ) → ¬ (H.next ≡ 12) → salvaged (Damaged H.at) 0 0 H.at 0 room ≡ salvage s room
+  pub salvage-bad : (H : Fields) → H ≡ fields_in s → (room : List ℕ) → ¬ (H.next ≡ 12) → salvaged (image_reply (Damaged H.at)) 0 0 H.at 0 room ≡ salvage s room
   unfolding salvage place_in
   salvage-bad H is room e =
       sym (ap₂ (λ (x : ℕ) (y : Option KeptPart). salvage_of x y room) (ap (fault_place s) (head-bad s H is e)) (front-bad H is e))
@@ -336,7 +337,7 @@ module _ (s : List ℕ) (b : ByteString s) (m : Machine) (n f c at : ℕ) (h : H
     where
       out : List ℕ → ℕ → ℕ → SalvageOutcome
       out fresh n place =
-          cond (leb (length fresh) (length room)) (salvaged Done n c place (length fresh) (fresh ++ drop (length fresh) room)) (salvaged NoRoom 0 0 place 0 room)
+          cond (leb (length fresh) (length room)) (salvaged image_done n c place (length fresh) (fresh ++ drop (length fresh) room)) (salvaged (image_reply NoRoom) 0 0 place 0 room)
 
       out-is : (f g : List ℕ) → f ≡ g → (n k : ℕ) → n ≡ k → (p q : ℕ) → p ≡ q → out f n p ≡ out g k q
       out-is f g e n k i p q j = ap₂ (λ (x : List ℕ) (y : ℕ). out x y p) e i ∙ ap (out g k) j

@@ -21,7 +21,7 @@ use Rattle.image.specs.Cells.{Run, cells_of, runs, Fit}
 use Rattle.image.specs.Cells.Run.{run}
 use Rattle.image.specs.Images.{Header, header_of, runs_bytes, spelled, IsImage}
 use Rattle.image.specs.ImageFormat.{Described, runs_format, all_register_bytes, image_format}
-use Rattle.image.specs.declared.Imaged.TheVariants.{Done, NoRoom, Damaged}
+use Rattle.image.specs.declared.ImageError.TheVariants.{NoRoom, Damaged}
 use Rattle.image.proofs.ImageLaws.{Held, AllBytes, Spelling, image-live, image-out, image-in}
 use Rattle.image.proofs.Images.{image-accepts, format-is-images}
 use Rattle.image_salvage.specs.Fronts.{Front, front}
@@ -29,6 +29,7 @@ use Rattle.image_salvage.specs.Fronts.Front.{ahead, stuck}
 use Rattle.image_salvage.specs.Salvage.{fault_place, place_in, Announced, announced_format, runs_kept, KeptPart, kept_from, kept_in, SalvageOutcome, salvaged, salvage_of, salvage}
 use Rattle.image_salvage.specs.Theorems.{PlaceAsInSix, end_of, fresh_of, KeepsFirst, SalvageIsExact, FreshIsImage, SoundUnchanged, SalvageRefusalChangesNothing}
 use Rattle.image_salvage.proofs.FrontLaws.{bytes_drop, take_behind, take-before, as_long, Ahead, ahead-one, stuck-never, front-ahead, onto}
+use Rattle.image.specs.Answers.{image_done, image_reply}
 use Rattle.image_salvage.proofs.KeepLaws.{follows, head-then, KeptOf, stopped-never, runs_of_lem, unlater, place-later}
 
 -- ---- what is accepted are bytes
@@ -189,17 +190,17 @@ module _ (s room : List ℕ) (k : KeptPart) (e : kept_in s ≡ some k) where
   abbrev fresh : List ℕ
   fresh = spelled k.header k.body
 
-  pub out-done : length fresh ≤ length room → salvage s room ≡ salvaged Done (length k.body) k.announced (place_in s) (length fresh) (fresh ++ drop (length fresh) room)
+  pub out-done : length fresh ≤ length room → salvage s room ≡ salvaged image_done (length k.body) k.announced (place_in s) (length fresh) (fresh ++ drop (length fresh) room)
   unfolding salvage
   out-done h = rw (e, le-leb (length fresh) (length room) h)
 
-  pub out-short : length room < length fresh → salvage s room ≡ salvaged NoRoom 0 0 (place_in s) 0 room
+  pub out-short : length room < length fresh → salvage s room ≡ salvaged (image_reply NoRoom) 0 0 (place_in s) 0 room
   unfolding salvage
   out-short h = rw (e, lt-leb (length fresh) (length room) h)
 
 module _ (s room : List ℕ) (d : Described) where
   abbrev pub Exact : ℕ → Type 0
-  Exact p = ((p < end_of d 0) × (salvage s room ≡ salvaged (Damaged p) 0 0 p 0 room)) ⊎ ((n : ℕ) × KeepsFirst s room p d n)
+  Exact p = ((p < end_of d 0) × (salvage s room ≡ salvaged (image_reply (Damaged p)) 0 0 p 0 room)) ⊎ ((n : ℕ) × KeepsFirst s room p d n)
 
   exact-some : (k : KeptPart) → kept_in s ≡ some k → KeepsRuns (place_in s) d k → KeepsFirst s room (place_in s) d (length k.body)
   exact-some k e h =
@@ -211,7 +212,7 @@ module _ (s room : List ℕ) (d : Described) where
         no_other = h.no_other;
         nought = λ fits.
             out-done s room k e (subst (λ (z : List ℕ). length z ≤ length room) (sym fresh-is) fits)
-            ∙ ap₂ (λ (x : ℕ) (z : List ℕ). salvaged Done (length k.body) x (place_in s) (length z) (z ++ drop (length z) room)) h.all-announced fresh-is;
+            ∙ ap₂ (λ (x : ℕ) (z : List ℕ). salvaged image_done (length k.body) x (place_in s) (length z) (z ++ drop (length z) room)) h.all-announced fresh-is;
         fourteen = λ less. out-short s room k e (subst (λ (z : List ℕ). length room < length z) (sym fresh-is) less);
       }
 
@@ -319,18 +320,18 @@ module _ (s room : List ℕ) (i : IsImage s) (fits : length s ≤ length room) w
   abbrev many : ℕ
   many = length (runs (cells_of i.registers i.marks))
 
-  unchanged : Exact s room own (place_in s) → salvage s room ≡ salvaged Done many many (length s) (length s) (s ++ drop (length s) room)
+  unchanged : Exact s room own (place_in s) → salvage s room ≡ salvaged image_done many many (length s) (length s) (s ++ drop (length s) room)
   unchanged (inl h) = absurd (omega (arith, h.0, whole-place, same_size))
   unchanged (inr (n, k)) = go (ltb n many) refl
     where
-      go : (t : Bool) → ltb n many ≡ t → salvage s room ≡ salvaged Done many many (length s) (length s) (s ++ drop (length s) room)
+      go : (t : Bool) → ltb n many ≡ t → salvage s room ≡ salvaged image_done many many (length s) (length s) (s ++ drop (length s) room)
       go true j = absurd (omega (arith, k.no_other (ltb-true n many j), whole-place, same_size))
       go false j =
           let all : n ≡ many = omega (arith, k.there, ltb-false n many j) in
           let fresh-is : fresh_of own n ≡ s = ap (spelled own.header) (take_all n own.body (ltb-false n many j)) ∙ sym (image-out s own own-accepted).are in
           k.nought (subst (λ (z : List ℕ). length z ≤ length room) (sym fresh-is) fits)
-          ∙ ap₂ (λ (x : ℕ) (z : List ℕ). salvaged Done x many (place_in s) (length z) (z ++ drop (length z) room)) all fresh-is
-          ∙ ap (λ (x : ℕ). salvaged Done many many x (length s) (s ++ drop (length s) room)) whole-place
+          ∙ ap₂ (λ (x : ℕ) (z : List ℕ). salvaged image_done x many (place_in s) (length z) (z ++ drop (length z) room)) all fresh-is
+          ∙ ap (λ (x : ℕ). salvaged image_done many many x (length s) (s ++ drop (length s) room)) whole-place
 
 pub sound-unchanged : SoundUnchanged
 sound-unchanged s room i fits = unchanged s room i fits (own-exact s room i fits)

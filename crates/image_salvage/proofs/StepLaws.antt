@@ -1,4 +1,5 @@
 -- The code's loop over the runs: one run that is there whole, then the others.
+use Rattle.std.specs.Prelude.{Err}
 use mathlib.Core.Path.{◌≡◌, refl, sym, ap, ap₂, ◌∙◌, subst}
 use mathlib.Core.Bool.{Bool, true, false, cond}
 use mathlib.Core.List.{List, [], ◌∷◌, ◌++◌}
@@ -17,7 +18,7 @@ use Rattle.numbers_format.specs.Parser.Parsed.{whole, stopped}
 use Rattle.numbers_coded.specs.At.{Number, found, number_at}
 use Rattle.numbers_coded.specs.At.Number.{Value, Fault}
 use Rattle.numbers_coded.proofs.FromLaws.{from_end, from_more, took}
-use Rattle.image.specs.declared.Imaged.TheVariants.{Damaged}
+use Rattle.image.specs.declared.ImageError.TheVariants.{Damaged}
 use Rattle.image.specs.Cells.{Run}
 use Rattle.image.specs.Cells.Run.{run}
 use Rattle.image.specs.Images.{runs_bytes}
@@ -156,7 +157,7 @@ module _ (s : List ℕ) (at left least room : ℕ) (there : at ≤ length s) (mo
     unfolding place_at runs_verdict
     bad-place = go (runs_from s at left least room) (next-bad s at left least room there more small room-ok p e)
       where
-        go : (q : Parsed Described) → verdict_of q ≡ Damaged p → fault_place s q ≡ p
+        go : (q : Parsed Described) → verdict_of q ≡ Err (Damaged p) → fault_place s q ≡ p
         go (whole d) h = let z : ◌≡◌ {A = ℕ} 0 1 = cc in absurd (omega arith)
         go (stopped x) h = cc
 

@@ -1,10 +1,11 @@
 -- What the functions of this crate find and leave, from a place of the input on. No contract of an entry point names it.
 use Rattle.std.specs.Prelude.{cond, List, ◌++◌, ℕ, ◌+◌, ◌-◌, leb, length, take, drop}
 use Rattle.numbers_format.specs.Numbers.{encode}
-use Rattle.image.specs.declared.Imaged.TheVariants.{Done, NoRoom}
+use Rattle.image.specs.declared.ImageError.TheVariants.{NoRoom}
 use Rattle.image.specs.Cells.{Run}
 use Rattle.image.specs.Images.{runs_bytes}
 use Rattle.image_header.specs.Fields.{runs_from}
+use Rattle.image.specs.Answers.{image_done, image_reply}
 use Rattle.image_salvage.specs.Salvage.{fault_place, runs_kept, SalvageOutcome, salvaged}
 
 -- of so many runs from a place on: the place of the fault
@@ -36,5 +37,5 @@ unfoldable pub rescued : (s : List ℕ) (at count total : ℕ) → List ℕ → 
 rescued s at count total room =
     let fresh : List ℕ = fresh_at s at count total in
     cond (leb (length fresh) (length room))
-    (salvaged Done (length (kept_at s at count 0 total)) count (place_at s at count 0 total) (length fresh) (fresh ++ drop (length fresh) room))
-    (salvaged NoRoom 0 0 (place_at s at count 0 total) 0 room)
+    (salvaged image_done (length (kept_at s at count 0 total)) count (place_at s at count 0 total) (length fresh) (fresh ++ drop (length fresh) room))
+    (salvaged (image_reply NoRoom) 0 0 (place_at s at count 0 total) 0 room)

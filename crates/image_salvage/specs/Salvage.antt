@@ -1,18 +1,20 @@
 -- 02, Thirteen: what is kept of an image that was cut or damaged, and the salvage of it.
+use Rattle.std.specs.Prelude.{Result, Ok, Err}
 use Rattle.std.specs.Prelude.{cond, List, [], ◌∷◌, ◌++◌, ℕ, zero, suc, ◌+◌, ◌-◌, leb, length, drop}
 use Rattle.std.proofs.Math.Option.{Option, none, some}
 use Rattle.numbers_format.specs.Formats.{Format}
 use Rattle.numbers_format.specs.Formats.Format.{done}
 use Rattle.numbers_format.specs.Parser.{Parsed, parse}
 use Rattle.numbers_format.specs.Parser.Parsed.{whole, stopped}
-use Rattle.image.specs.declared.Imaged.{Imaged}
-use Rattle.image.specs.declared.Imaged.TheVariants.{Done, NoRoom, Damaged}
-use Rattle.image.specs.Answers.{ImageReply, image_reply}
+use Rattle.image.specs.declared.ImageError.TheVariants.{NoRoom, Damaged}
+use Rattle.image.specs.Answers.{ImageReply, image_reply, image_done}
 use Rattle.image.specs.Cells.{Run}
 use Rattle.image.specs.Cells.Run.{run}
 use Rattle.image.specs.Images.{Header, spelled}
 use Rattle.image.specs.ImageFormat.{Described, run_format, all_register_bytes, head_format, image_format}
 use Rattle.image_salvage.specs.declared.Salvaged.{Salvaged}
+use Rattle.image_salvage.specs.declared.SalvageError.{SalvageError}
+use Rattle.image_salvage.specs.declared.SalvageError.TheVariants as Refused
 use Rattle.image_salvage.specs.Fronts.{Front, front}
 use Rattle.image_salvage.specs.Fronts.Front.{ahead, stuck}
 
@@ -74,23 +76,25 @@ pub record SalvageOutcome : Type 0 where
   pub size : ℕ
   pub room : List ℕ
 
-abbrev pub salvaged : Imaged → (kept announced place size : ℕ) → List ℕ → SalvageOutcome
+abbrev pub salvaged : ImageReply → (kept announced place size : ℕ) → List ℕ → SalvageOutcome
 salvaged answer kept announced place size room =
-    record { answer = image_reply answer; kept = kept; announced = announced; place = place; size = size; room = room }
+    record { answer = answer; kept = kept; announced = announced; place = place; size = size; room = room }
 
 -- "reports the runs kept, the runs announced and that place"; "It writes a fresh image of what is kept, as Six writes"; "Refusals, each with
 -- that place and counts of 0: a bad header gets 15; no room 14." A refusal writes nothing.
 abbrev pub salvage_of : (place : ℕ) → Option KeptPart → (room : List ℕ) → SalvageOutcome
-salvage_of place none room = salvaged (Damaged place) 0 0 place 0 room
+salvage_of place none room = salvaged (image_reply (Damaged place)) 0 0 place 0 room
 salvage_of place (some k) room =
     let fresh : List ℕ = spelled k.header k.body in
     cond (leb (length fresh) (length room))
-    (salvaged Done (length k.body) k.announced place (length fresh) (fresh ++ drop (length fresh) room))
-    (salvaged NoRoom 0 0 place 0 room)
+    (salvaged image_done (length k.body) k.announced place (length fresh) (fresh ++ drop (length fresh) room))
+    (salvaged (image_reply NoRoom) 0 0 place 0 room)
 
 unfoldable pub salvage : (image room : List ℕ) → SalvageOutcome
 salvage image room = salvage_of (place_in image) (kept_in image) room
 
 -- what the function `salvage` returned and left
-abbrev pub salvaged_as : Salvaged → List ℕ → SalvageOutcome
-salvaged_as r room = salvaged r.answer r.kept r.announced r.place r.length room
+abbrev pub salvaged_as : Result Salvaged SalvageError → List ℕ → SalvageOutcome
+salvaged_as (Ok r) room = salvaged image_done r.kept r.announced r.place r.length room
+salvaged_as (Err (Refused.Damaged place)) room = salvaged (image_reply (Damaged place)) 0 0 place 0 room
+salvaged_as (Err (Refused.NoRoom place)) room = salvaged (image_reply NoRoom) 0 0 place 0 room

@@ -4,8 +4,8 @@ use Rattle.numbers_format.specs.Numbers.{ByteString}
 use Rattle.numbers_format.specs.Formats.{Ends, Accepts}
 use Rattle.machine.specs.Geometry.{Bench}
 use Rattle.machine.specs.Faults.{sound_bench}
-use Rattle.image.specs.declared.Imaged.TheVariants.{Done, NoRoom, Damaged}
-use Rattle.image.specs.Answers.{image_reply}
+use Rattle.image.specs.declared.ImageError.TheVariants.{NoRoom, Damaged}
+use Rattle.image.specs.Answers.{image_reply, image_done}
 use Rattle.image.specs.Cells.{cells_of, runs}
 use Rattle.image.specs.Images.{runs_bytes, spelled, IsImage}
 use Rattle.image.specs.ImageFormat.{Described, image_format}
@@ -36,14 +36,14 @@ pub record KeepsFirst (s room : List ℕ) (p : ℕ) (d : Described) (n : ℕ) : 
   pub end_before : end_of d n ≤ p
   pub no_other : n < length d.body → p < end_of d (suc n)
   pub nought : length (fresh_of d n) ≤ length room
-      → salvage s room ≡ salvaged Done n (length d.body) p (length (fresh_of d n)) (fresh_of d n ++ drop (length (fresh_of d n)) room)
-  pub fourteen : length room < length (fresh_of d n) → salvage s room ≡ salvaged NoRoom 0 0 p 0 room
+      → salvage s room ≡ salvaged image_done n (length d.body) p (length (fresh_of d n)) (fresh_of d n ++ drop (length (fresh_of d n)) room)
+  pub fourteen : length room < length (fresh_of d n) → salvage s room ≡ salvaged (image_reply NoRoom) 0 0 p 0 room
 
 -- of every input, by every image d that goes on from its place: "a bad header gets 15", where the header ends behind the place, and else that
 -- is kept
 abbrev pub SalvageIsExact : Type 0
 SalvageIsExact = (s room : List ℕ) → ByteString s → let p = (salvage s room).place in (u : List ℕ) (d : Described) → Accepts image_format (take p s ++ u) d
-    → ((p < end_of d 0) × (salvage s room ≡ salvaged (Damaged p) 0 0 p 0 room)) ⊎ ((n : ℕ) × KeepsFirst s room p d n)
+    → ((p < end_of d 0) × (salvage s room ≡ salvaged (image_reply (Damaged p)) 0 0 p 0 room)) ⊎ ((n : ℕ) × KeepsFirst s room p d n)
 
 -- "It writes a fresh image": what is written is an image, and the room past it stays
 abbrev pub FreshIsImage : Type 0
@@ -59,11 +59,11 @@ EnoughRoom = (s room : List ℕ) → ByteString s → length s ≤ length room �
 -- "a sound image comes out unchanged", all its runs kept
 abbrev pub SoundUnchanged : Type 0
 SoundUnchanged = (s room : List ℕ) (i : IsImage s) → length s ≤ length room
-    → let n = length (runs (cells_of i.registers i.marks)) in salvage s room ≡ salvaged Done n n (length s) (length s) (s ++ drop (length s) room)
+    → let n = length (runs (cells_of i.registers i.marks)) in salvage s room ≡ salvaged image_done n n (length s) (length s) (s ++ drop (length s) room)
 
 -- a machine that differs from another at most in marks taken away
 pub record FewerMarks (B : Bench) (o : ReadOutcome) : Type 0 where
-  pub nought : o.answer ≡ image_reply Done
+  pub nought : o.answer ≡ image_done
   pub same-machine : o.machine ≡ B.machine
   pub same-seals : o.seals ≡ B.seals
   pub same_bytes : (q : ℕ) → get_or o.marks q 0 ≡ 1 → (get_or B.marks q 0 ≡ 1) × (get_or o.registers q 0 ≡ get_or B.registers q 0)

@@ -6,23 +6,9 @@ ghost use Rattle.image_check.specs.Parts.{scan_in};
 ghost use Rattle.image_salvage.specs.Salvage.{salvaged_as};
 ghost use Rattle.image_salvage.specs.Parts.{rescued};
 
-use crate::Salvaged;
-use image::Imaged;
+use crate::{SalvageError, Salvaged};
 use image_check::scan::Scanned;
 use numbers_coded::{copy_bytes, number_size, put_number};
-
-// What a refused salvage returns.
-pub fn refused(answer: Imaged, place: u64) -> Salvaged
-    ensures { result ≡ record { answer = answer; kept = 0; announced = 0; place = place; length = 0 } }
-{
-    Salvaged {
-        answer: answer,
-        kept: 0,
-        announced: 0,
-        place: place,
-        length: 0,
-    }
-}
 
 // Writes the first bytes of s, a number, and the n bytes of s from a place on into the room.
 fn put_fresh(s: &[u8], first: usize, number: u64, at: usize, n: usize, room: &mut [u8])
@@ -36,7 +22,7 @@ fn put_fresh(s: &[u8], first: usize, number: u64, at: usize, n: usize, room: &mu
 }
 
 // Writes a fresh image of what is kept of s, in which this was found.
-pub fn rescue(s: &[u8], found: Scanned, room: &mut [u8]) -> Salvaged
+pub fn rescue(s: &[u8], found: Scanned, room: &mut [u8]) -> Result<Salvaged, SalvageError>
     requires found_value { found ≡ scan_in s.now }
     requires next_value { found.fields.next ≡ 12 }
     ensures { salvaged_as result room.new
@@ -45,21 +31,18 @@ pub fn rescue(s: &[u8], found: Scanned, room: &mut [u8]) -> Salvaged
     let fields = found.fields;
     let tally = found.runs;
     let at = fields.at;
-    let count = fields.runs;
-    let runs = tally.kept;
-    let end = tally.at;
-    let place = tally.place;
-    let first = at - number_size(count);
-    let size = first + number_size(runs) + (end - at);
+    let place = tally.place as u64;
+    let first = at - number_size(fields.runs);
+    let n = tally.at - at;
+    let size = first + number_size(tally.kept) + n;
     if room.len() < size {
-        return refused(Imaged::NoRoom, place as u64);
+        return Err(SalvageError::NoRoom { place });
     }
-    put_fresh(s, first, runs, at, end - at, room);
-    Salvaged {
-        answer: Imaged::Done,
-        kept: runs,
-        announced: count,
-        place: place as u64,
+    put_fresh(s, first, tally.kept, at, n, room);
+    Ok(Salvaged {
+        kept: tally.kept,
+        announced: fields.runs,
+        place,
         length: size as u64,
-    }
+    })
 }

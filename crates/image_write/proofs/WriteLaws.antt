@@ -1,4 +1,5 @@
 -- What the entry points have to show: an image is its numbers, then its runs.
+use Rattle.std.specs.Prelude.{Ok, Err}
 use Rattle.numbers.proofs.Kit.{◌≡◌, sym, ap, ap₂, ◌∙◌, true, false, List, [], ◌∷◌, ◌++◌, ℕ, ◌+◌, ◌≤◌, ◌<◌, arith, length, length-append, sets, le-leb}
 use Rattle.numbers.proofs.Kit.{lt-leb}
 use Rattle.numbers_format.specs.Numbers.{encode, encode_all}
@@ -7,7 +8,7 @@ use Rattle.machine.specs.Faults.{sound, seals_fit}
 use Rattle.machine.proofs.TestLaws.{and_left, and_right}
 use Rattle.machine.proofs.StepLaws.{permitted-bounds}
 use Rattle.machine.proofs.NoFault.{sound-is}
-use Rattle.image.specs.declared.Imaged.TheVariants.{Done, BadArguments, NoRoom}
+use Rattle.image.specs.declared.ImageError.TheVariants.{BadArguments, NoRoom}
 use Rattle.image.specs.Cells.{cells_of, runs}
 use Rattle.image.specs.Images.{Seals, version, fields, header_of, runs_bytes, image_of, sound_with}
 use Rattle.image.specs.Writing.{size_reply, size_image, write_reply, write_image}
@@ -73,27 +74,27 @@ module _ (m : Machine) (seals : Seals) (registers marks : List ℕ) where
 
   -- ---- what is returned
 
-  pub size-refused : sound_with m seals registers marks ≡ false → size_reply BadArguments 0 ≡ size_image m seals registers marks
+  pub size-refused : sound_with m seals registers marks ≡ false → size_reply (Err BadArguments) ≡ size_image m seals registers marks
   unfolding size_image
   size-refused e = rw e
 
-  pub size-done : sound_with m seals registers marks ≡ true → (n : ℕ) → n ≡ length (image_of m seals registers marks) → size_reply Done n ≡ size_image m seals registers marks
+  pub size-done : sound_with m seals registers marks ≡ true → (n : ℕ) → n ≡ length (image_of m seals registers marks) → size_reply (Ok n) ≡ size_image m seals registers marks
   unfolding size_image
-  size-done e n q = rw e (ap (size_reply Done) q)
+  size-done e n q = rw e (ap (λ (x : ℕ). size_reply (Ok x)) q)
 
   module _ (room : List ℕ) where
-    pub write-refused : sound_with m seals registers marks ≡ false → write_reply BadArguments 0 room ≡ write_image m seals registers marks room
+    pub write-refused : sound_with m seals registers marks ≡ false → write_reply (Err BadArguments) room ≡ write_image m seals registers marks room
     unfolding write_image
     write-refused e = rw e
 
-    pub write-short : sound_with m seals registers marks ≡ true → (n : ℕ) → n ≡ length (image_of m seals registers marks) → length room < n → write_reply NoRoom 0 room ≡ write_image m seals registers marks room
+    pub write-short : sound_with m seals registers marks ≡ true → (n : ℕ) → n ≡ length (image_of m seals registers marks) → length room < n → write_reply (Err NoRoom) room ≡ write_image m seals registers marks room
     unfolding write_image
     write-short e n q h = rw (e, lt-leb (length (image_of m seals registers marks)) (length room) (omega (arith, q)))
 
     pub write_done : sound_with m seals registers marks ≡ true → (n : ℕ) → n ≡ length (image_of m seals registers marks) → n ≤ length room → (room₁ : List ℕ) → room₁ ≡ sets room 0 (image_of m seals registers marks)
-        → write_reply Done n room₁ ≡ write_image m seals registers marks room
+        → write_reply (Ok n) room₁ ≡ write_image m seals registers marks room
     unfolding write_image
     write_done e n q h room₁ r =
         let fits : length (image_of m seals registers marks) ≤ length room = omega (arith, q) in
         rw (e, le-leb (length (image_of m seals registers marks)) (length room) fits)
-        (ap (λ (x : ℕ). write_reply Done x room₁) q ∙ ap (write_reply Done (length (image_of m seals registers marks))) (r ∙ sets-front (image_of m seals registers marks) room fits))
+        (ap (λ (x : ℕ). write_reply (Ok x) room₁) q ∙ ap (write_reply (Ok (length (image_of m seals registers marks)))) (r ∙ sets-front (image_of m seals registers marks) room fits))

@@ -9,10 +9,10 @@ ghost use Rattle.machine.specs.Faults.{seals_fit};
 ghost use Rattle.unit_ranges.specs.Ranges.{seals_in};
 ghost use Rattle.image.specs.Cells.{cells_of, runs};
 ghost use Rattle.image.specs.Images.{exponent, beyond, version, fields, header_of, image_of, sound_with};
-ghost use Rattle.image.specs.Writing.{size_image, sized_as, write_image, written_as};
+ghost use Rattle.image.specs.Writing.{size_image, size_reply, write_image, write_reply};
 ghost use Rattle.image_write.specs.Parts.{plain_fields};
 
-use image::{Imaged, Sized, Written};
+use image::ImageError;
 use machine::Machine;
 use numbers_coded::put_number;
 use runs::{put_runs, tally_of};
@@ -29,13 +29,7 @@ mod stretch; // marks of one value
 fn exponent(n: u64) -> u64
     ensures { (result ≡ exponent n) × (result ≤ 64) }
 {
-    let mut x = n;
-    let mut e: u64 = 0;
-    while 2 <= x {
-        x = x / 2;
-        e += 1;
-    }
-    e
+    u64::from(n.max(1).ilog2())
 }
 
 // Whether a machine is beyond the old bounds, or has ELEN 64.
@@ -64,29 +58,25 @@ fn version_of(m: Machine, block: &[u8]) -> Version
     ensures { (result.count ≤ 3) × (take result.count result.numbers ≡ version (header_of m (seals_in block.now))) }
 {
     if count_of(block) != 1 {
-        let numbers = [4, m.rule, exponent(m.elen)];
         return Version {
-            numbers: numbers,
+            numbers: [4, m.rule, exponent(m.elen)],
             count: 3,
         };
     }
     if is_beyond(m) {
-        let numbers = [3, m.rule, exponent(m.elen)];
         return Version {
-            numbers: numbers,
+            numbers: [3, m.rule, exponent(m.elen)],
             count: 3,
         };
     }
     if m.rule == 1 {
-        let numbers = [2, 1, 0];
         return Version {
-            numbers: numbers,
+            numbers: [2, 1, 0],
             count: 2,
         };
     }
-    let numbers = [1, 0, 0];
     Version {
-        numbers: numbers,
+        numbers: [1, 0, 0],
         count: 1,
     }
 }
@@ -203,50 +193,38 @@ fn put_image(m: Machine, block: &[u8], count: u64, registers: &[u8], marks: &[u8
 }
 
 // The length of the image of a machine with the ranges in its block.
-pub fn image_size(m: Machine, block: &[u8], registers: &[u8], marks: &[u8]) -> Sized
-    ensures { sized_as result ≡ size_image m (seals_in block.now) registers.now marks.now }
+pub fn image_size(
+    m: Machine,
+    block: &[u8],
+    registers: &[u8],
+    marks: &[u8],
+) -> Result<u64, ImageError>
+    ensures { size_reply result ≡ size_image m (seals_in block.now) registers.now marks.now }
 {
     if !unit_faults::is_sound(m, block, registers, marks) {
-        return Sized {
-            answer: Imaged::BadArguments,
-            size: 0,
-        };
+        return Err(ImageError::BadArguments);
     }
     let measure = measure_of(m, block, registers, marks);
-    Sized {
-        answer: Imaged::Done,
-        size: measure.size as u64,
-    }
+    Ok(measure.size as u64)
 }
 
-// Writes the image of a machine with the ranges in its block into the room. Refused, it changes nothing.
+// Writes the image of a machine with the ranges in its block into the room, and returns its length. Refused, it changes nothing.
 pub fn write_image(
     m: Machine,
     block: &[u8],
     registers: &[u8],
     marks: &[u8],
     room: &mut [u8],
-) -> Written
-    ensures { written_as result room.new ≡ write_image m (seals_in block.now) registers.now marks.now room.old }
+) -> Result<u64, ImageError>
+    ensures { write_reply result room.new ≡ write_image m (seals_in block.now) registers.now marks.now room.old }
 {
     if !unit_faults::is_sound(m, block, registers, marks) {
-        return Written {
-            answer: Imaged::BadArguments,
-            length: 0,
-        };
+        return Err(ImageError::BadArguments);
     }
     let measure = measure_of(m, block, registers, marks);
-    let count = measure.count;
-    let size = measure.size;
-    if room.len() < size {
-        return Written {
-            answer: Imaged::NoRoom,
-            length: 0,
-        };
+    if room.len() < measure.size {
+        return Err(ImageError::NoRoom);
     }
-    put_image(m, block, count, registers, marks, room);
-    Written {
-        answer: Imaged::Done,
-        length: size as u64,
-    }
+    put_image(m, block, measure.count, registers, marks, room);
+    Ok(measure.size as u64)
 }

@@ -24,6 +24,7 @@ pub fn tally_of(marks: &[u8]) -> Tally
     let mut at: usize = 0;
     let mut runs: u64 = 0;
     let mut bytes: usize = 0;
+    // A while: a turn takes a gap and a run, of any length.
     while at < marks.len() {
         let first = stretch_end(marks, at, 0);
         if first == marks.len() {
@@ -47,6 +48,7 @@ pub fn put_runs(room: &mut [u8], start: usize, registers: &[u8], marks: &[u8])
 {
     let mut to = start;
     let mut at: usize = 0;
+    // A while: a turn takes a gap and a run, of any length.
     while at < marks.len() {
         let first = stretch_end(marks, at, 0);
         if first == marks.len() {

@@ -9,7 +9,7 @@ ghost use Rattle.image_write.specs.Parts.{count_field};
 
 use crate::several::{numbers_size, put_numbers};
 use numbers_coded::put_number;
-use unit_element::read8;
+use unit_element::Element;
 use unit_ranges::{count_of, slot_at};
 
 // Start and length of each range, one after the other.
@@ -19,12 +19,10 @@ fn bounds_of(block: &[u8]) -> [u64; 16]
 {
     let count = count_of(block);
     let mut numbers: [u64; 16] = [0; 16];
-    let mut i: usize = 0;
-    while i < count {
+    for i in 0..count {
         let at = slot_at(i);
-        numbers[2 * i] = read8(block, at);
-        numbers[2 * i + 1] = read8(block, at + 8);
-        i += 1;
+        numbers[2 * i] = u64::read(block, at);
+        numbers[2 * i + 1] = u64::read(block, at + 8);
     }
     numbers
 }

@@ -10,11 +10,9 @@ pub fn numbers_size(numbers: &[u64]) -> usize
     requires { length numbers.now ≤ 1000 }
     ensures { (result ≡ length (encode_all numbers.now [])) × (result ≤ 10 * length numbers.now) }
 {
-    let mut i = 0;
     let mut size: usize = 0;
-    while i < numbers.len() {
-        size += number_size(numbers[i]);
-        i += 1;
+    for n in numbers {
+        size += number_size(*n);
     }
     size
 }
@@ -27,10 +25,8 @@ pub fn put_numbers(room: &mut [u8], start: usize, numbers: &[u64]) -> usize
     ensures room_after { room.new ≡ sets room.old start (encode_all numbers.now []) }
 {
     let mut at = start;
-    let mut i = 0;
-    while i < numbers.len() {
-        at = put_number(room, at, numbers[i]);
-        i += 1;
+    for n in numbers {
+        at = put_number(room, at, *n);
     }
     at
 }

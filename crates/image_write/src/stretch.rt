@@ -4,7 +4,7 @@ ghost use Rattle.std.specs.Int.Count.{count_trailing_zeros};
 ghost use Rattle.machine.specs.Tests.{all};
 ghost use Rattle.image_write.specs.Parts.{TwoValued, Stretch, StretchTo, from_bytes, differs};
 
-use unit_element::read8;
+use unit_element::Element;
 
 // Whether the n marks from p on all have the value, without a way out of the loop.
 fn all_are(marks: &[u8], p: usize, n: usize, value: u8) -> bool
@@ -12,12 +12,10 @@ fn all_are(marks: &[u8], p: usize, n: usize, value: u8) -> bool
     ensures { result ≡ all n (λ b. eqb (get_or marks.now (p + b) 0) value) }
 {
     let mut good = true;
-    let mut i = 0;
-    while i < n {
+    for i in 0..n {
         if marks[p + i] != value {
             good = false;
         }
-        i += 1;
     }
     good
 }
@@ -28,6 +26,7 @@ fn blocks_end(marks: &[u8], from: usize, value: u8) -> usize
     ensures { StretchTo marks.now from value result }
 {
     let mut i = from;
+    // A while: the place of the block is the answer, and a range by 64 is no plainer.
     while marks.len() - i >= 64 {
         if !all_are(marks, i, 64, value) {
             return i;
@@ -42,14 +41,12 @@ fn end_before(marks: &[u8], from: usize, limit: usize, value: u8) -> usize
     requires { (from ≤ limit) × (limit ≤ length marks.now) }
     ensures { Stretch marks.now from limit value result }
 {
-    let mut i = from;
-    while i < limit {
+    for i in from..limit {
         if marks[i] != value {
             return i;
         }
-        i += 1;
     }
-    i
+    limit
 }
 
 // How many of the low bytes of a number are 0, up to the first other one.
@@ -66,7 +63,7 @@ fn others(marks: &[u8], at: usize, value: u8) -> u64
     requires value_bound { value < 2 }
     ensures { result ≡ from_bytes 8 (λ i. differs value (get_or marks.now (at + i) 0)) }
 {
-    let word = read8(marks, at);
+    let word = u64::read(marks, at);
     if value == 0 {
         return word;
     }
@@ -81,6 +78,7 @@ fn words_end(marks: &[u8], from: usize, limit: usize, value: u8) -> usize
     ensures { Stretch marks.now from limit value result }
 {
     let mut i = from;
+    // A while: what it leaves, fewer than 8, is looked at from where it ends.
     while limit - i >= 8 {
         let word = others(marks, i, value);
         if word != 0 {

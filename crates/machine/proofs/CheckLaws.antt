@@ -1,10 +1,9 @@
 -- A verdict of Done means that every check passed; and what the check of the marks answers.
 use Rattle.numbers.proofs.Kit.{◌≡◌, refl, subst, Bool, true, false, cond, not, ◌&&◌, List, [], ◌∷◌, ℕ, ◌+◌, ◌*◌, ◌<◌, mul-le-mul_right, arith, eqb, get_or}
-use Rattle.numbers.proofs.Kit.{eq-eqb, ne_eqb}
-use Rattle.machine.specs.declared.Answer.TheVariants.{Done}
+use Rattle.numbers.proofs.Kit.{eq-eqb, ne_eqb, Err}
 use Rattle.machine.specs.Tests.{all}
 use Rattle.machine.proofs.TestLaws.{and_left, and_right, all_true, all-false, first-is, false-true}
-use Rattle.machine.specs.Answers.{Check, verdict, is_done}
+use Rattle.machine.specs.Answers.{Check, verdict, is_done, Done}
 use Rattle.machine.specs.Refusals.{marked, first_row, first_column}
 
 -- each check passed
@@ -15,19 +14,19 @@ Passed (c ∷ cs) = (c.holds ≡ true) × Passed cs
 -- no check answers Done where it fails
 abbrev pub refusals : List Check → Bool
 refusals [] = true
-refusals (c ∷ cs) = not (is_done c.answer) && refusals cs
+refusals (c ∷ cs) = not (is_done (Err c.answer)) && refusals cs
 
 pub passed : (cs : List Check) → refusals cs ≡ true → is_done (verdict cs) ≡ true → Passed cs
 passed [] r h = tt
-passed (c ∷ cs) r h = go c.holds refl (passed cs (and_right (not (is_done c.answer)) (refusals cs) r)) h
+passed (c ∷ cs) r h = go c.holds refl (passed cs (and_right (not (is_done (Err c.answer))) (refusals cs) r)) h
   where
     not-both : (t : Bool) → not t ≡ true → t ≡ true → ⊥
     not-both true h g = false-true h
     not-both false h g = false-true g
 
-    go : (t : Bool) → c.holds ≡ t → (is_done (verdict cs) ≡ true → Passed cs) → is_done (cond t (verdict cs) c.answer) ≡ true → Passed (c ∷ cs)
+    go : (t : Bool) → c.holds ≡ t → (is_done (verdict cs) ≡ true → Passed cs) → is_done (cond t (verdict cs) (Err c.answer)) ≡ true → Passed (c ∷ cs)
     go true e ih v = (e, ih v)
-    go false e ih v = absurd (not-both (is_done c.answer) (and_left (not (is_done c.answer)) (refusals cs) r) v)
+    go false e ih v = absurd (not-both (is_done (Err c.answer)) (and_left (not (is_done (Err c.answer))) (refusals cs) r) v)
 
 pub no-refusal : (cs : List Check) → Passed cs → verdict cs ≡ Done
 no-refusal [] p = refl

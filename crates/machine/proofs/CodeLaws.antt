@@ -1,17 +1,17 @@
 -- For code: the verdict of checks made in parts, the outcome of an instruction from its parts, and bounds of what is decoded.
 use Rattle.numbers.proofs.Kit.{◌≡◌, refl, sym, ap, ap₂, ◌∙◌, Bool, true, false, cond, not, ◌&&◌, List, [], ◌∷◌, ◌++◌, ℕ, ◌^◌, ◌≤◌, arith, ltb, eqb}
-use Rattle.numbers.proofs.Kit.{eqb-true, ltb-true, ltb-false, lt-ltb, ne_eqb}
+use Rattle.numbers.proofs.Kit.{eqb-true, ltb-true, ltb-false, lt-ltb, ne_eqb, Ok, Err}
 use Rattle.numbers.specs.Blocks.{Choice}
 use Rattle.numbers.specs.Bounds.{most_elen}
 use Rattle.machine.specs.declared.Machine.{Machine}
-use Rattle.machine.specs.declared.Answer.{Answer}
-use Rattle.machine.specs.declared.Answer.TheVariants.{Done, IllegalWord, IllegalType, BadWidth, TileTooLarge, Unwritten, OutsideMemory, SealedByte, BadArguments, Overlap, WrongOpcode, LeftOutWord, WrongRegister, RowsOverlap, TooManySeals}
+use Rattle.machine.specs.declared.Refusal.{Refusal}
+use Rattle.machine.specs.declared.Refusal.TheVariants.{IllegalWord, IllegalType, BadWidth, TileTooLarge, Unwritten, OutsideMemory, SealedByte, BadArguments, Overlap, WrongOpcode, LeftOutWord, WrongRegister, RowsOverlap, TooManySeals}
 use Rattle.machine.specs.declared.Wrong.TheVariants.{Opcode, Register}
 use Rattle.machine.specs.declared.Instruction.{Instruction}
 use Rattle.machine.specs.declared.Instruction.TheVariants.{Illegal, SetTypeImmediate, SetType, SetTileImmediate, SetTile, Load, Store, Multiply, Combine, Scale, ScaleImmediate, FloatMultiply, MoveOut, MoveIn}
 use Rattle.machine.specs.Tests.{all, every, is_in}
 use Rattle.machine.proofs.TestLaws.{all-at, each, each_in, and_left, and_right, false-true}
-use Rattle.machine.specs.Answers.{reply, done, Check, verdict, is_done}
+use Rattle.machine.specs.Answers.{reply, done, Check, verdict, is_done, Answer, Done}
 use Rattle.machine.specs.Geometry.{elens, sealed, Parameters, parameters, machine_after, Bench, bench_of, with_scalar}
 use Rattle.machine.specs.Setting.{sew, mill, legal_type, new_type}
 use Rattle.machine.specs.Listing.{field7, field15, field20, immediate13, Row, look_up, not_ours, listing, ranged, in_range, decode}
@@ -23,22 +23,26 @@ use Rattle.machine.specs.Step.{Outcome, outcome, step_by, step_checks, given, me
 
 -- ---- answers
 
+-- no refusal is numbered 0
+pub refused-not-done : (r : Refusal) → is_done (Err r) ≡ false
+refused-not-done IllegalWord = refl
+refused-not-done IllegalType = refl
+refused-not-done BadWidth = refl
+refused-not-done TileTooLarge = refl
+refused-not-done (Unwritten row column) = refl
+refused-not-done OutsideMemory = refl
+refused-not-done SealedByte = refl
+refused-not-done BadArguments = refl
+refused-not-done Overlap = refl
+refused-not-done WrongOpcode = refl
+refused-not-done LeftOutWord = refl
+refused-not-done WrongRegister = refl
+refused-not-done RowsOverlap = refl
+refused-not-done TooManySeals = refl
+
 pub only-done : (a : Answer) → is_done a ≡ true → a ≡ Done
-only-done Done h = refl
-only-done IllegalWord h = absurd (false-true h)
-only-done IllegalType h = absurd (false-true h)
-only-done BadWidth h = absurd (false-true h)
-only-done TileTooLarge h = absurd (false-true h)
-only-done (Unwritten r c) h = absurd (false-true h)
-only-done OutsideMemory h = absurd (false-true h)
-only-done SealedByte h = absurd (false-true h)
-only-done BadArguments h = absurd (false-true h)
-only-done Overlap h = absurd (false-true h)
-only-done WrongOpcode h = absurd (false-true h)
-only-done LeftOutWord h = absurd (false-true h)
-only-done WrongRegister h = absurd (false-true h)
-only-done RowsOverlap h = absurd (false-true h)
-only-done TooManySeals h = absurd (false-true h)
+only-done (Ok u) h = refl
+only-done (Err r) h = absurd (false-true (sym (refused-not-done r) ∙ h))
 
 -- a step that is answered 0 is answered as `Done` is
 pub step-zero : (grant : Choice) (word : ℕ) (xs : List ℕ) (B : Bench) → done (step_by grant word xs B).answer ≡ true → (step_by grant word xs B).answer ≡ reply Done
@@ -58,14 +62,14 @@ step-zero grant word xs B = go (is_done told) refl
 -- checks that are made in two parts
 pub verdict-append : (ds bs : List Check) → refusals ds ≡ true → verdict (ds ++ bs) ≡ cond (is_done (verdict ds)) (verdict bs) (verdict ds)
 verdict-append [] bs r = refl
-verdict-append (c ∷ cs) bs r = go c.holds (verdict-append cs bs (and_right (not (is_done c.answer)) (refusals cs) r)) (and_left (not (is_done c.answer)) (refusals cs) r)
+verdict-append (c ∷ cs) bs r = go c.holds (verdict-append cs bs (and_right (not (is_done (Err c.answer))) (refusals cs) r)) (and_left (not (is_done (Err c.answer))) (refusals cs) r)
   where
-    go : (t : Bool) → verdict (cs ++ bs) ≡ cond (is_done (verdict cs)) (verdict bs) (verdict cs) → not (is_done c.answer) ≡ true
-        → cond t (verdict (cs ++ bs)) c.answer ≡ cond (is_done (cond t (verdict cs) c.answer)) (verdict bs) (cond t (verdict cs) c.answer)
+    go : (t : Bool) → verdict (cs ++ bs) ≡ cond (is_done (verdict cs)) (verdict bs) (verdict cs) → not (is_done (Err c.answer)) ≡ true
+        → cond t (verdict (cs ++ bs)) (Err c.answer) ≡ cond (is_done (cond t (verdict cs) (Err c.answer))) (verdict bs) (cond t (verdict cs) (Err c.answer))
     go true ih n = ih
-    go false ih n = refused (is_done c.answer) n
+    go false ih n = refused (is_done (Err c.answer)) n
       where
-        refused : (d : Bool) → not d ≡ true → c.answer ≡ cond d (verdict bs) c.answer
+        refused : (d : Bool) → not d ≡ true → (Err c.answer) ≡ cond d (verdict bs) (Err c.answer)
         refused true n = absurd (false-true n)
         refused false n = refl
 

@@ -12,7 +12,7 @@ pub mod StartLaws
 pub mod AnswerLaws
 pub mod CodeLaws
 -- The theorems of specs/Theorems.antt and specs/WordTheorems.antt.
-pub mod Refusal
+pub mod Refused
 pub mod NoFault
 pub mod Sealing
 pub mod Stores

@@ -2,7 +2,7 @@
 use Rattle.numbers.proofs.Kit.{◌≡◌, refl, sym, ◌∙◌, subst, inl, inr, Bool, true, false, cond, List, [], ◌∷◌, ◌++◌, ℕ, zero, suc, ◌+◌, ◌*◌, ◌/◌}
 use Rattle.numbers.proofs.Kit.{◌^◌, ◌≤◌, ◌<◌, min, div-le_self, arith, ℕ_discrete, leb, ltb, eqb, length, get_or, set, length-set, List·getD-eq-default}
 use Rattle.numbers.proofs.Kit.{replicate, length-replicate, length-append, get_or-set_same, get_or-set_other, le-leb, lt-ltb, eq-eqb, leb-true, ltb-true}
-use Rattle.numbers.proofs.Kit.{eqb-true}
+use Rattle.numbers.proofs.Kit.{eqb-true, Err}
 use Rattle.numbers.proofs.UptoLaws.{upto-keeps}
 use Rattle.numbers.specs.Tile.{mark_tile, mark_row}
 use Rattle.numbers.proofs.TileLaws.{length-put_tile, length-mark_tile}
@@ -27,7 +27,7 @@ use Rattle.machine.specs.Sealing.{add_seal, seal_checks, with_seal}
 use Rattle.machine.proofs.StartLaws.{accepted}
 use Rattle.machine.proofs.CheckLaws.{passed}
 use Rattle.machine.specs.Theorems.{StepKeepsSound, StepKeepsFile, SealKeepsSound, StartIsSound}
-use Rattle.machine.specs.declared.Answer.TheVariants.{BadArguments}
+use Rattle.machine.specs.declared.Refusal.TheVariants.{BadArguments}
 use Rattle.machine.specs.Listing
 use Rattle.machine.specs.Step
 use Rattle.machine.specs.Step.{VectorOutcome, beside, outcome, outcome_in, vectors_in, step_by, step_with, checks_in, meant_in, given_in, left_in}
@@ -269,7 +269,7 @@ step-keeps-sound grant G word xs W B h = go (vectors_fit W)
     o : VectorOutcome
     o = beside (vectors_in W (parameters grant B.machine) (Listing.decode word) xs B) (outcome_in W (parameters grant B.machine) (Listing.decode word) xs B)
 
-    go : (t : Bool) → sound_bench (cond t o (beside W.file (Step.refused_in W (parameters grant B.machine) (Listing.decode word) xs B BadArguments))).bench ≡ true
+    go : (t : Bool) → sound_bench (cond t o (beside W.file (Step.refused_in W (parameters grant B.machine) (Listing.decode word) xs B (Err BadArguments)))).bench ≡ true
     go true = outcome-sound grant G (Listing.decode word) xs W B h
     go false = h
 
@@ -304,7 +304,7 @@ step-keeps-file grant word xs W B = go (vectors_fit W) (is_done (verdict (checks
     after (Operation.move_in f d v first count file) st = refl
 
     go : (t u : Bool)
-        → length (cond t (beside (cond u (vectors_after M (meant_in W M i xs B) (given_in W M i xs B) W.file) W.file) (outcome_in W M i xs B)) (beside W.file (Step.refused_in W M i xs B BadArguments))).vectors
+        → length (cond t (beside (cond u (vectors_after M (meant_in W M i xs B) (given_in W M i xs B) W.file) W.file) (outcome_in W M i xs B)) (beside W.file (Step.refused_in W M i xs B (Err BadArguments)))).vectors
         ≡ length W.file
     go true true = after (meant_in W M i xs B) (given_in W M i xs B)
     go true false = refl

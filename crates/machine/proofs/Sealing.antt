@@ -1,8 +1,8 @@
 -- Demand 2: over any list of words, each with its scalars, no sealed byte of memory changes, and the seal stays.
 use Rattle.numbers.proofs.Kit.{◌≡◌, refl, sym, ap, ◌∙◌, subst, Bool, true, false, cond, ◌||◌, List, [], ◌∷◌, ◌++◌, append-nil, append_assoc, ℕ, length}
-use Rattle.numbers.proofs.Kit.{get_or}
+use Rattle.numbers.proofs.Kit.{get_or, Err}
 use Rattle.numbers.specs.Blocks.{Choice}
-use Rattle.machine.specs.declared.Answer.TheVariants.{BadArguments}
+use Rattle.machine.specs.declared.Refusal.TheVariants.{BadArguments}
 use Rattle.machine.specs.declared.Instruction.{Instruction}
 use Rattle.machine.specs.Tests.{within}
 use Rattle.machine.proofs.TestLaws.{false-true}
@@ -127,7 +127,7 @@ step-with-unharmed grant word xs W B = go (vectors_fit W)
     o : VectorOutcome
     o = beside (vectors_in W (parameters grant B.machine) (decode word) xs B) (outcome_in W (parameters grant B.machine) (decode word) xs B)
 
-    go : (t : Bool) → Unharmed grant B (cond t o (beside W.file (Step.refused_in W (parameters grant B.machine) (decode word) xs B BadArguments))).bench
+    go : (t : Bool) → Unharmed grant B (cond t o (beside W.file (Step.refused_in W (parameters grant B.machine) (decode word) xs B (Err BadArguments)))).bench
     go true = outcome-unharmed grant (decode word) xs W B
     go false = record { same-parameters = refl; ranges-stay = stay B.seals; same_length = refl; same_bytes = λ q h. refl }
 

@@ -1,11 +1,10 @@
 -- For code: permitted lengths by their parts, and what a return of `start` has to show.
 use Rattle.numbers.proofs.Kit.{◌≡◌, refl, sym, ap, ap₂, ◌∙◌, Bool, true, false, cond, ◌&&◌, List, [], ◌∷◌, ℕ, suc, ◌+◌, ◌*◌, ◌-◌, ◌/◌, ◌%◌, ◌^◌, ◌≤◌, ◌<◌}
 use Rattle.numbers.proofs.Kit.{div-add-mod', add-div_right, arith, leb, ltb, eqb, length, replicate, get_or, drop, length-drop, drop-cons, le-leb, lt-leb}
-use Rattle.numbers.proofs.Kit.{leb-true, eqb-true}
+use Rattle.numbers.proofs.Kit.{leb-true, eqb-true, Err}
 use Rattle.machine.proofs.TestLaws.{same_test, false-true, every-each}
-use Rattle.machine.specs.declared.Answer.TheVariants.{Done, BadArguments, TooManySeals}
-use Rattle.machine.specs.declared.Answer.{Answer}
-use Rattle.machine.specs.Answers.{is_done}
+use Rattle.machine.specs.declared.Refusal.TheVariants.{BadArguments, TooManySeals}
+use Rattle.machine.specs.Answers.{is_done, Done, Answer}
 use Rattle.machine.specs.Tests.{is_in, every}
 use Rattle.machine.specs.Geometry.{range, permitted, rlens, mlens, elens}
 use Rattle.machine.specs.Starting.{is_rule, seal_ends, seals_end, most_seals, ranges, paired, startable, start_machine, started_as, StartOutcome, fresh_machine, no_machine}
@@ -71,7 +70,7 @@ ranges-end numbers i l = short (drop i numbers) (omega (arith, length-drop i num
 
 module _ (rlen mlen elen rule : ℕ) (seals registers marks : List ℕ) where
   abbrev answered : Bool → Bool → Answer
-  answered t u = cond t (cond u Done TooManySeals) BadArguments
+  answered t u = cond t (cond u Done (Err TooManySeals)) (Err BadArguments)
 
   abbrev out : Bool → Bool → StartOutcome
   out t u =
@@ -87,7 +86,7 @@ module _ (rlen mlen elen rule : ℕ) (seals registers marks : List ℕ) where
 
   -- refused for its arguments, whatever the number of ranges
   pub started-bad : startable rlen mlen elen rule seals registers marks ≡ false
-      → started_as (record { answer = BadArguments; machine = no_machine }) seals registers marks ≡ whole
+      → started_as (record { answer = (Err BadArguments); machine = no_machine }) seals registers marks ≡ whole
   started-bad e = started-as false (leb (length (ranges seals)) most_seals) e refl
 
   -- an accepted start

@@ -3,12 +3,10 @@ use Rattle.numbers.proofs.Kit.{◌≡◌, refl, sym, ap, ◌∙◌, subst, Bool,
 use Rattle.numbers.proofs.Kit.{eqb, leb-true, ltb-true, eqb-true}
 use Rattle.numbers.specs.Blocks.{Choice}
 use Rattle.numbers.specs.Bounds.{most_rlen, most_mlen}
-use Rattle.machine.specs.declared.Answer.{Answer}
-use Rattle.machine.specs.declared.Answer.TheVariants.{Done}
 use Rattle.machine.specs.declared.Instruction.{Instruction}
 use Rattle.machine.specs.Tests.{every, is_in}
 use Rattle.machine.proofs.TestLaws.{every-each, each, each_in, or-not}
-use Rattle.machine.specs.Answers.{reply, is_done, verdict}
+use Rattle.machine.specs.Answers.{reply, is_done, verdict, Answer, Done}
 use Rattle.machine.proofs.CheckLaws.{Passed, no-refusal}
 use Rattle.machine.specs.Geometry.{sealed, Parameters, parameters, State, machine_after, permitted, rlens, mlens, elens}
 use Rattle.machine.specs.Listing.{decode}

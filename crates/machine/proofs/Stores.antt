@@ -1,5 +1,5 @@
 -- 02, Seven: a store that is accepted leaves each element where it belongs.
-use Rattle.numbers.proofs.Kit.{◌≡◌, refl, sym, ap, ◌∙◌, subst, Bool, true, false, cond, List, ℕ, eq-eqb}
+use Rattle.numbers.proofs.Kit.{◌≡◌, refl, sym, ap, ◌∙◌, subst, Bool, true, false, cond, List, ℕ, eq-eqb, Err}
 use Rattle.numbers.specs.Blocks.{Choice}
 use Rattle.machine.specs.declared.Instruction.{Instruction}
 use Rattle.machine.specs.declared.Instruction.TheVariants.{Store}
@@ -10,7 +10,7 @@ use Rattle.machine.specs.Faults.{sound_bench}
 use Rattle.machine.specs.Step
 use Rattle.machine.specs.Vectors.{Vectors, vectors_fit, idle}
 use Rattle.machine.specs.Listing.{decode}
-use Rattle.machine.specs.declared.Answer.TheVariants.{BadArguments}
+use Rattle.machine.specs.declared.Refusal.TheVariants.{BadArguments}
 use Rattle.machine.specs.Step.{VectorOutcome, beside, outcome, step_with, step_checks, given, meant, checks_in, given_in, meant_in}
 use Rattle.machine.specs.Theorems.{Stores, StoresAreExact}
 use Rattle.machine.proofs.TestLaws.{false-true}
@@ -59,7 +59,7 @@ accepted-with grant word i xs W B d h =
     out t u = cond t
         (beside (cond u (vectors_after M (meant_in W M j xs B) (given_in W M j xs B) W.file) W.file)
         (cond u (Step.carried_in W M j xs B) (Step.refused_in W M j xs B (verdict (checks_in W M j xs B)))))
-        (beside W.file (Step.refused_in W M j xs B BadArguments))
+        (beside W.file (Step.refused_in W M j xs B (Err BadArguments)))
 
     go : (t : Bool) → vectors_fit W ≡ t → (u : Bool) → is_done (verdict (checks_in W M j xs B)) ≡ u → (out t u).answer.number ≡ 0 → Accepted grant j xs W B (out t u)
     go true f true e h = let a = accepted_in W M j xs B true e h in record { fit = f; sound = a.1; passes = a.2; leaves = refl }

@@ -1,14 +1,13 @@
 -- 02, One: which words get 10, 11, 1 and 12, and that nothing else moved.
 use Rattle.numbers.proofs.Kit.{◌≡◌, refl, sym, ap, ap₂, ◌∙◌, subst, ◌↔◌, ◌⊎◌, inl, inr, Bool, true, false, cond, not, ◌&&◌, ◌||◌, List, [], ◌∷◌, List-as-Memᴰ}
-use Rattle.numbers.proofs.Kit.{List·Memᴰ·head, List·Memᴰ·tail, List·Memᴰ·cases-cons, List·Memᴰ·not-nil, ℕ, arith, eqb, eq-eqb, eqb-true, eqb-false}
-use Rattle.machine.specs.declared.Answer.{Answer}
-use Rattle.machine.specs.declared.Answer.TheVariants.{IllegalWord, BadArguments, WrongOpcode, LeftOutWord, WrongRegister}
+use Rattle.numbers.proofs.Kit.{List·Memᴰ·head, List·Memᴰ·tail, List·Memᴰ·cases-cons, List·Memᴰ·not-nil, ℕ, arith, eqb, eq-eqb, eqb-true, eqb-false, Err}
+use Rattle.machine.specs.declared.Refusal.TheVariants.{IllegalWord, BadArguments, WrongOpcode, LeftOutWord, WrongRegister}
 use Rattle.machine.specs.declared.Wrong.{Wrong}
 use Rattle.machine.specs.declared.Wrong.TheVariants.{Opcode, LeftOut, Unlisted, Register}
 use Rattle.machine.specs.declared.Instruction.{Instruction}
 use Rattle.machine.specs.declared.Instruction.TheVariants.{Illegal, SetTypeImmediate, SetType, SetTileImmediate, SetTile, Load, Store, Multiply, Combine, Scale, ScaleImmediate, FloatMultiply, MoveOut, MoveIn}
 use Rattle.machine.specs.Tests.{is_in}
-use Rattle.machine.specs.Answers.{reply, Check, ◌otherwise◌, verdict, is_done, number}
+use Rattle.machine.specs.Answers.{reply, Check, ◌otherwise◌, verdict, is_done, number, Answer}
 use Rattle.machine.specs.Geometry.{sealed, Parameters, parameters, State, Bench}
 use Rattle.machine.specs.Listing.{bits, Fixed, Code, Row, listing, others, has, listed, look_up, not_ours, in_range, ranged, decode}
 use Rattle.machine.specs.Operation.{Operation, operation_in}
@@ -208,13 +207,13 @@ elsewhere n = not (is_in n four)
 
 abbrev all_elsewhere : List Check → Bool
 all_elsewhere [] = true
-all_elsewhere (c ∷ cs) = elsewhere (number c.answer) && all_elsewhere cs
+all_elsewhere (c ∷ cs) = elsewhere (number (Err c.answer)) && all_elsewhere cs
 
 verdict-elsewhere : (cs : List Check) → all_elsewhere cs ≡ true → elsewhere (number (verdict cs)) ≡ true
 verdict-elsewhere [] h = refl
-verdict-elsewhere (c ∷ cs) h = go c.holds (and_left (elsewhere (number c.answer)) (all_elsewhere cs) h) (verdict-elsewhere cs (and_right (elsewhere (number c.answer)) (all_elsewhere cs) h))
+verdict-elsewhere (c ∷ cs) h = go c.holds (and_left (elsewhere (number (Err c.answer))) (all_elsewhere cs) h) (verdict-elsewhere cs (and_right (elsewhere (number (Err c.answer))) (all_elsewhere cs) h))
   where
-    go : (t : Bool) → elsewhere (number c.answer) ≡ true → elsewhere (number (verdict cs)) ≡ true → elsewhere (number (cond t (verdict cs) c.answer)) ≡ true
+    go : (t : Bool) → elsewhere (number (Err c.answer)) ≡ true → elsewhere (number (verdict cs)) ≡ true → elsewhere (number (cond t (verdict cs) (Err c.answer))) ≡ true
     go true h ih = ih
     go false h ih = h
 
@@ -296,7 +295,7 @@ module _ (W : Vectors) (M : Parameters) (xs : List ℕ) (B : Bench) where
   refusal a = record { answer = reply a; bench = B; scalars = xs }
 
   abbrev told : Bool → Bool → Wrong → Answer
-  told s t w = cond s (cond t (word_answer w) BadArguments) BadArguments
+  told s t w = cond s (cond t (Err (word_answer w)) (Err BadArguments)) (Err BadArguments)
 
   illegal-told : (w : Wrong) → outcome_in W M (Illegal w) xs B ≡ refusal (told (sound_bench B) (thirty_two xs) w)
   illegal-told w = go (sound_bench B) (thirty_two xs) w
@@ -380,10 +379,10 @@ module _ (W : Vectors) (M : Parameters) (xs : List ℕ) (B : Bench) where
   lifted : (i j : Instruction) → OnlyNumberMoved (beside (vectors_in W M i xs B) (outcome_in W M i xs B)) (beside (vectors_in W M j xs B) (outcome_in W M j xs B)) → Moved i j
   lifted i j h = go (vectors_fit W)
     where
-      go : (t : Bool) → OnlyNumberMoved (cond t (beside (vectors_in W M i xs B) (outcome_in W M i xs B)) (beside W.file (refusal W M xs B BadArguments)))
-          (cond t (beside (vectors_in W M j xs B) (outcome_in W M j xs B)) (beside W.file (refusal W M xs B BadArguments)))
+      go : (t : Bool) → OnlyNumberMoved (cond t (beside (vectors_in W M i xs B) (outcome_in W M i xs B)) (beside W.file (refusal W M xs B (Err BadArguments))))
+          (cond t (beside (vectors_in W M j xs B) (outcome_in W M j xs B)) (beside W.file (refusal W M xs B (Err BadArguments))))
       go true = h
-      go false = alike BadArguments BadArguments refl refl refl
+      go false = alike (Err BadArguments) (Err BadArguments) refl refl refl
 
   illegal-is : (w : Wrong) → beside (vectors_in W M (Illegal w) xs B) (outcome_in W M (Illegal w) xs B) ≡ beside W.file (refusal W M xs B (told W M xs B (sound_bench B) (thirty_two xs) w))
   illegal-is w = ap₂ beside (illegal-file W M xs B w) (illegal-told W M xs B w)
@@ -396,12 +395,12 @@ module _ (W : Vectors) (M : Parameters) (xs : List ℕ) (B : Bench) where
       (go (sound_bench B) (thirty_two xs) w)))
     where
       go : (s t : Bool) (w : Wrong) → OnlyNumberMoved (beside W.file (refusal W M xs B (told W M xs B s t w))) (beside W.file (refusal W M xs B (told W M xs B s t Unlisted)))
-      go false t w = alike BadArguments BadArguments refl refl refl
-      go true false w = alike BadArguments BadArguments refl refl refl
-      go true true Opcode = alike WrongOpcode IllegalWord refl refl refl
-      go true true LeftOut = alike LeftOutWord IllegalWord refl refl refl
-      go true true Unlisted = alike IllegalWord IllegalWord refl refl refl
-      go true true Register = alike WrongRegister IllegalWord refl refl refl
+      go false t w = alike (Err BadArguments) (Err BadArguments) refl refl refl
+      go true false w = alike (Err BadArguments) (Err BadArguments) refl refl refl
+      go true true Opcode = alike (Err WrongOpcode) (Err IllegalWord) refl refl refl
+      go true true LeftOut = alike (Err LeftOutWord) (Err IllegalWord) refl refl refl
+      go true true Unlisted = alike (Err IllegalWord) (Err IllegalWord) refl refl refl
+      go true true Register = alike (Err WrongRegister) (Err IllegalWord) refl refl refl
 
   ours-moved : (i : Instruction) → is_ours i ≡ true → group_fits W i ≡ true → Moved i i
   ours-moved i h g =
@@ -433,7 +432,7 @@ module _ (W : Vectors) (M : Parameters) (xs : List ℕ) (B : Bench) where
   added-one : (word : ℕ) → Faultless xs W B → Kind word → IsAdded word → (stepped_in W M (decode_before word) xs B).answer.number ≡ 1
   added-one word f k a =
       ap (λ (i : Instruction). (stepped_in W M i xs B).answer.number) (unlisted-before k)
-      ∙ ap (λ (t : Bool). (cond t (beside (vectors_in W M (Illegal Unlisted) xs B) (outcome_in W M (Illegal Unlisted) xs B)) (beside W.file (refusal W M xs B BadArguments))).answer.number) f.2
+      ∙ ap (λ (t : Bool). (cond t (beside (vectors_in W M (Illegal Unlisted) xs B) (outcome_in W M (Illegal Unlisted) xs B)) (beside W.file (refusal W M xs B (Err BadArguments)))).answer.number) f.2
       ∙ ap (λ (o : Outcome). o.answer.number) (illegal-told W M xs B Unlisted) ∙ rw (f.0, f.1)
     where
       unlisted-before : Kind word → decode_before word ≡ Illegal Unlisted
@@ -515,7 +514,7 @@ module _ (word : ℕ) (xs : List ℕ) (W : Vectors) (B : Bench) where
     abbrev Answered : Instruction → Type 0
     Answered i = Refused (outcome_in W M i xs B).answer.number
 
-    told-answered : (w : Wrong) → (Faultless xs W B → Refused (number (word_answer w))) → Refused (number (told W M xs B (sound_bench B) (thirty_two xs) w))
+    told-answered : (w : Wrong) → (Faultless xs W B → Refused (number (Err (word_answer w)))) → Refused (number (told W M xs B (sound_bench B) (thirty_two xs) w))
     told-answered w k = go (sound_bench B) refl (thirty_two xs) refl
       where
         go : (s : Bool) → sound_bench B ≡ s → (t : Bool) → thirty_two xs ≡ t → Refused (number (told W M xs B s t w))
@@ -523,7 +522,7 @@ module _ (word : ℕ) (xs : List ℕ) (W : Vectors) (B : Bench) where
         go true s false e = at-fault 8 refl (λ f. false-true (sym e ∙ f.1))
         go true s true e = k (s, e, fit)
 
-    illegal-answered : (w : Wrong) → (Faultless xs W B → Refused (number (word_answer w))) → Answered (Illegal w)
+    illegal-answered : (w : Wrong) → (Faultless xs W B → Refused (number (Err (word_answer w)))) → Answered (Illegal w)
     illegal-answered w k = subst (λ (o : Outcome). Refused o.answer.number) (sym (illegal-told W M xs B w)) (told-answered w k)
 
     found : (r : Row) → List-as-Memᴰ r listing → EveryBit word r.code → look_up word (not_ours word) listing ≡ r.means word
@@ -556,6 +555,6 @@ word-refusals grant word xs W B = go (vectors_fit W) refl
     M = parameters grant B.machine
 
     go : (t : Bool) → vectors_fit W ≡ t
-        → RefusedAs (cond t (beside (vectors_in W M (decode word) xs B) (outcome_in W M (decode word) xs B)) (beside W.file (Step.refused_in W M (decode word) xs B BadArguments))).answer.number word xs W B
+        → RefusedAs (cond t (beside (vectors_in W M (decode word) xs B) (outcome_in W M (decode word) xs B)) (beside W.file (Step.refused_in W M (decode word) xs B (Err BadArguments)))).answer.number word xs W B
     go true e = word-answered word xs W B M e (kind word)
     go false e = at-fault word xs W B 8 refl (λ f. false-true (sym e ∙ f.2))

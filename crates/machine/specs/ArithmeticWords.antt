@@ -3,7 +3,7 @@ use Rattle.std.specs.Prelude.{◌&&◌, ◌||◌, ◌∷◌, ◌*◌, ◌^◌, �
 use Rattle.numbers.specs.Kit.{Bool, true, false, List, [], ℕ, zero, suc, leb, eqb, ℤ, pos, negsuc}
 use Rattle.numbers.specs.Reduce.{signed, reduce, sumℤ}
 use Rattle.numbers.specs.Binary32.{float_product}
-use Rattle.machine.specs.declared.Answer.TheVariants.{BadWidth}
+use Rattle.machine.specs.declared.Refusal.TheVariants.{BadWidth}
 use Rattle.machine.specs.declared.Dimension.TheVariants.{DimensionM, DimensionK, DimensionN}
 use Rattle.machine.specs.declared.Sum.{Sum}
 use Rattle.machine.specs.declared.Sum.TheVariants.{Add, Subtract, ReverseSubtract}

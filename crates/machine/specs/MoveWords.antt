@@ -2,8 +2,8 @@
 use Rattle.std.specs.Prelude.{◌∷◌, ◌++◌, ◌+◌, ◌*◌}
 use Rattle.numbers.specs.Kit.{List, [], ℕ, leb}
 use Rattle.numbers.specs.Tile.{put_tile}
-use Rattle.machine.specs.declared.Answer.{Answer}
-use Rattle.machine.specs.declared.Answer.TheVariants.{TileTooLarge, Unwritten}
+use Rattle.machine.specs.declared.Refusal.{Refusal}
+use Rattle.machine.specs.declared.Refusal.TheVariants.{TileTooLarge, Unwritten}
 use Rattle.machine.specs.declared.Matrix.TheVariants.{MatrixC}
 use Rattle.machine.specs.declared.Form.{Form}
 use Rattle.machine.specs.declared.Form.TheVariants.{Plain, Transposed}
@@ -55,7 +55,7 @@ slice_fits M f first count st =
     ∷ (leb (line_of f st * sew st.mtype) vector_bytes otherwise TileTooLarge) ∷ []
 
 -- 5 of a slice: "row and column" are those of the accumulator; the first element in the order of its rows
-abbrev pub unwritten_in : Form → (first row column : ℕ) → Answer
+abbrev pub unwritten_in : Form → (first row column : ℕ) → Refusal
 unwritten_in Plain first row column = Unwritten (first + row) column
 unwritten_in Transposed first row column = Unwritten row (first + column)
 

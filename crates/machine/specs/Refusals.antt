@@ -2,8 +2,8 @@
 -- 10, 11, 1, 12, then 2 to 6, 13, 7: "sources go ms1, ms2, md".
 use Rattle.std.specs.Prelude.{◌||◌, ◌+◌, ◌*◌}
 use Rattle.numbers.specs.Kit.{Bool, not, List, ℕ, leb, eqb, get_or}
-use Rattle.machine.specs.declared.Answer.{Answer}
-use Rattle.machine.specs.declared.Answer.TheVariants.{IllegalWord, IllegalType, TileTooLarge, Unwritten, WrongOpcode, LeftOutWord, WrongRegister}
+use Rattle.machine.specs.declared.Refusal.{Refusal}
+use Rattle.machine.specs.declared.Refusal.TheVariants.{IllegalWord, IllegalType, TileTooLarge, Unwritten, WrongOpcode, LeftOutWord, WrongRegister}
 use Rattle.machine.specs.declared.Wrong.{Wrong}
 use Rattle.machine.specs.declared.Wrong.TheVariants.{Opcode, LeftOut, Unlisted, Register}
 use Rattle.machine.specs.declared.Dimension.{Dimension}
@@ -13,7 +13,7 @@ use Rattle.machine.specs.Geometry.{Parameters, State}
 use Rattle.machine.specs.Setting.{mill, maximum, size_in}
 
 -- 10, 11, 1, 12: a word that is refused for what it is
-abbrev pub word_answer : Wrong → Answer
+abbrev pub word_answer : Wrong → Refusal
 word_answer Opcode = WrongOpcode
 word_answer LeftOut = LeftOutWord
 word_answer Unlisted = IllegalWord

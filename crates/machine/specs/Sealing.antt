@@ -1,10 +1,9 @@
 -- 02, Twelve: "a range may be added between steps but never taken off".
 use Rattle.std.specs.Prelude.{◌∷◌, ◌++◌}
 use Rattle.numbers.specs.Kit.{cond, List, [], ℕ, ltb, length}
-use Rattle.machine.specs.declared.Answer.{Answer}
-use Rattle.machine.specs.declared.Answer.TheVariants.{BadArguments, TooManySeals}
+use Rattle.machine.specs.declared.Refusal.TheVariants.{BadArguments, TooManySeals}
 use Rattle.machine.specs.declared.Reply.{Reply}
-use Rattle.machine.specs.Answers.{reply, is_done, Check, ◌otherwise◌, verdict}
+use Rattle.machine.specs.Answers.{reply, is_done, Check, ◌otherwise◌, verdict, Answer}
 use Rattle.machine.specs.Geometry.{range, Bench, bench_of}
 use Rattle.machine.specs.Starting.{seal_ends, most_seals}
 use Rattle.machine.specs.Faults.{sound_bench}

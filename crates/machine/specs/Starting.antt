@@ -1,13 +1,12 @@
 -- 01, "What a machine is", and 02, Twelve: starting a machine.
 use Rattle.std.specs.Prelude.{◌&&◌, ◌∷◌, ◌+◌, ◌-◌, ◌%◌, ◌^◌}
-use Rattle.numbers.specs.Kit.{Bool, true, cond, List, [], ℕ, leb, eqb, length, replicate}
+use Rattle.numbers.specs.Kit.{Result, Ok, Err, Bool, true, cond, List, [], ℕ, leb, eqb, length, replicate}
 use Rattle.machine.specs.declared.Machine.{Machine}
-use Rattle.machine.specs.declared.Answer.TheVariants.{BadArguments, TooManySeals}
-use Rattle.machine.specs.declared.Started.{Started}
+use Rattle.machine.specs.declared.Refusal.TheVariants.{BadArguments, TooManySeals}
+use Rattle.machine.specs.declared.Refusal.{Refusal}
 use Rattle.machine.specs.Tests.{every}
-use Rattle.machine.specs.declared.Answer.{Answer}
 use Rattle.machine.specs.declared.Reply.{Reply}
-use Rattle.machine.specs.Answers.{reply, is_done, Check, ◌otherwise◌, verdict}
+use Rattle.machine.specs.Answers.{Answer, Done, reply, is_done, Check, ◌otherwise◌, verdict}
 use Rattle.machine.specs.Geometry.{Range, range, permitted, register_bytes}
 
 -- 02, Eight: "one of two rules, 0 as before or 1 halving"
@@ -79,6 +78,15 @@ abbrev pub start_checks : (rlen mlen elen rule : ℕ) → (seals registers marks
 start_checks rlen mlen elen rule seals registers marks =
     (startable rlen mlen elen rule seals registers marks otherwise BadArguments)
     ∷ (leb (length (ranges seals)) most_seals otherwise TooManySeals) ∷ []
+
+-- a start's answer, and the machine; the numbers of no machine where it is refused
+pub record Started : Type 0 where
+  pub answer : Answer
+  pub machine : Machine
+
+abbrev pub started : Result Machine Refusal → Started
+started (Ok m) = record { answer = Done; machine = m }
+started (Err r) = record { answer = Err r; machine = no_machine }
 
 -- a machine holds the ranges that it is started with, in order of entry; one that is not started holds none
 abbrev pub started_as : Started → (seals registers marks : List ℕ) → StartOutcome

@@ -1,15 +1,15 @@
 -- A step: the word is decoded, the scalars are read, the checks are made in the order 8, then 10, 11, 1, 12, then 2 to 6, 13, 7, and the
 -- effect follows.
 use Rattle.std.specs.Prelude.{◌∷◌}
-use Rattle.numbers.specs.Kit.{cond, List, ℕ}
+use Rattle.numbers.specs.Kit.{Result, Ok, Err, cond, List, ℕ}
 use Rattle.numbers.specs.Blocks.{Choice}
-use Rattle.machine.specs.declared.Answer.{Answer}
-use Rattle.machine.specs.declared.Answer.TheVariants.{Done, BadArguments}
-use Rattle.machine.specs.declared.Stepped.{Stepped}
+use Rattle.machine.specs.declared.Machine.{Machine}
+use Rattle.machine.specs.declared.Refusal.{Refusal}
+use Rattle.machine.specs.declared.Refusal.TheVariants.{BadArguments}
 use Rattle.machine.specs.declared.Instruction.{Instruction}
 use Rattle.machine.specs.declared.Instruction.TheVariants.{Illegal, SetTypeImmediate, SetType, SetTileImmediate, SetTile, Load, Store, Multiply, Combine, Scale, ScaleImmediate, FloatMultiply, MoveOut, MoveIn}
 use Rattle.machine.specs.declared.Reply.{Reply}
-use Rattle.machine.specs.Answers.{reply, Check, ◌otherwise◌, verdict, is_done}
+use Rattle.machine.specs.Answers.{reply, Check, ◌otherwise◌, verdict, is_done, Answer, Done}
 use Rattle.machine.specs.Geometry.{Range, sealed, Parameters, parameters, State, state_of, machine_after, Bench, bench_of, with_scalar}
 use Rattle.machine.specs.Setting.{chosen}
 use Rattle.machine.specs.Listing.{decode}
@@ -93,7 +93,7 @@ module _ (W : Vectors) (M : Parameters) (i : Instruction) (xs : List ℕ) (B : B
 
   -- 02, Eleven: "a bad vector file or group size gets 8"
   abbrev pub stepped_in : VectorOutcome
-  stepped_in = cond (vectors_fit W) (beside vectors_in outcome_in) (beside W.file (refused_in BadArguments))
+  stepped_in = cond (vectors_fit W) (beside vectors_in outcome_in) (beside W.file (refused_in (Err BadArguments)))
 
 -- a step under a choice of sizes for each rule
 unfoldable pub step_with : Choice → ℕ → List ℕ → Vectors → Bench → VectorOutcome
@@ -134,6 +134,15 @@ abbrev pub step : ℕ → List ℕ → Bench → Outcome
 step = step_by chosen
 
 -- what the function `step` returned and left
+-- the answer of a step of machine m, and the machine after it, which a refusal leaves as it was
+pub record Stepped : Type 0 where
+  pub answer : Answer
+  pub machine : Machine
+
+abbrev pub stepped : Machine → Result Machine Refusal → Stepped
+stepped m (Ok after) = record { answer = Done; machine = after }
+stepped m (Err r) = record { answer = Err r; machine = m }
+
 abbrev pub stepped_as : Stepped → List Range → (registers marks scalars memory : List ℕ) → Outcome
 stepped_as r seals registers marks scalars memory = record {
   answer = reply r.answer;

@@ -1,7 +1,7 @@
 -- 01, "Loading, storing, reckoning", and 02, Two and Seven: loads and stores.
 use Rattle.std.specs.Prelude.{◌&&◌, ◌||◌, ◌∷◌, ◌*◌}
 use Rattle.numbers.specs.Kit.{Bool, false, [], ℕ, leb, eqb, length}
-use Rattle.machine.specs.declared.Answer.TheVariants.{BadWidth, OutsideMemory, SealedByte, RowsOverlap}
+use Rattle.machine.specs.declared.Refusal.TheVariants.{BadWidth, OutsideMemory, SealedByte, RowsOverlap}
 use Rattle.machine.specs.declared.Matrix.{Matrix}
 use Rattle.machine.specs.declared.Matrix.TheVariants.{MatrixA, MatrixB, MatrixC}
 use Rattle.machine.specs.declared.Form.{Form}

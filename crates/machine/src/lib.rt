@@ -15,10 +15,9 @@ pub struct Machine {
     pub elen: u64,
 }
 
-// What a start, a step or a run answers. specs/Answers.antt gives the number, row and column of each case.
+// What a start, a step or a run is refused for. specs/Answers.antt gives the number, row and column of each case.
 #[derive(Clone, Copy)]
-pub enum Answer {
-    Done,
+pub enum Refusal {
     IllegalWord,
     IllegalType,
     BadWidth,
@@ -35,26 +34,15 @@ pub enum Answer {
     TooManySeals,
 }
 
+// What a start, a step or a run answers: that it is done, or what it is refused for.
+pub type Answer = Result<(), Refusal>;
+
 // An answer's number, and the row and column that it names; 0 where it names none.
 #[derive(Clone, Copy)]
 pub struct Reply {
     pub number: u64,
     pub row: u64,
     pub column: u64,
-}
-
-// What a start returns: the machine, or zeros where it is refused.
-#[derive(Clone, Copy)]
-pub struct Started {
-    pub answer: Answer,
-    pub machine: Machine,
-}
-
-// What a step returns beside the lent buffers.
-#[derive(Clone, Copy)]
-pub struct Stepped {
-    pub answer: Answer,
-    pub machine: Machine,
 }
 
 #[derive(Clone, Copy)]

@@ -41,3 +41,4 @@ unfoldable pub use lib.Pow.{pow_mono, pow_pos}
 pub use borrow.Author.Tests.{eq-eqb, eqb-false, eqb-true, le-leb, le-ltb, leb-false, leb-true, lt-leb, lt-ltb, ltb-false, ltb-true, ne_eqb, not-false}
 pub use borrow.Author.Tests.{not-true}
 pub use borrow.Author.Rules.{rules}
+pub use Rattle.std.specs.Prelude.{Result, Ok, Err}

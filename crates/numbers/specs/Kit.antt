@@ -22,3 +22,4 @@ unfoldable pub use Rattle.std.proofs.Math.IntN.{◌*ℤ◌, ◌+ℤ◌, ◌-ℤ�
 pub use Rattle.std.proofs.Math.Seq.{length-sets, take-append-add, take-append_seam, take-nil}
 pub use Rattle.std.proofs.lemmas.List.Edits.{sets-eq}
 unfoldable pub use Rattle.std.proofs.Math.Seq.{sets}
+pub use Rattle.std.specs.Prelude.{Result, Ok, Err}

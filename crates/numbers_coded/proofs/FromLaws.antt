@@ -1,4 +1,5 @@
 -- A format from a place of the input on: the laws by which code follows the parser, number by number.
+use Rattle.std.specs.Prelude.{Ok, Err}
 use mathlib.Core.Path.{◌≡◌, refl, sym, ap, ap₂, ◌∙◌, subst}
 use mathlib.Core.Bool.{Bool, true, false, cond}
 use mathlib.Core.List.{List, [], ◌∷◌}
@@ -16,19 +17,20 @@ use Rattle.numbers_format.specs.Parser.{is_among, nonempty, afters, Got, grow, r
 use Rattle.numbers_format.specs.Parser.Got.{value, fault}
 use Rattle.numbers_format.specs.Parser.Parsed.{whole, stopped}
 use Rattle.numbers_format.proofs.NumberLaws.{is_among-among}
-use Rattle.numbers_coded.specs.declared.Reading.{Reading}
+use Rattle.numbers_coded.specs.declared.Coded.{Coded}
+use Rattle.numbers_coded.specs.declared.Damage.{Damage}
 use Rattle.numbers_coded.specs.At.{Number, plain, found, number_at}
 use Rattle.numbers_coded.specs.At.Number.{Value, Fault}
 
 -- ---- what the code has of it
 
-pub good-is : (r : Reading) (q : Number) → r ≡ plain q → r.good ≡ true → q ≡ Value r.value r.at
-good-is r (Value n a) e g = cc
-good-is r (Fault p) e g = let z : ◌≡◌ {A = ℕ} 0 1 = ap (λ (b : Bool). cond b 1 0) (sym (ap (λ (x : Reading). x.good) e) ∙ g) in absurd (omega arith)
+pub good-is : (q : Number) {n : Coded} → Ok n ≡ plain q → q ≡ Value n.value n.at
+good-is (Value n a) e = cc
+good-is (Fault p) e = let z : ◌≡◌ {A = ℕ} 0 1 = cc in absurd (omega arith)
 
-pub bad-is : (r : Reading) (q : Number) → r ≡ plain q → r.good ≡ false → q ≡ Fault r.at
-bad-is r (Value n a) e g = let z : ◌≡◌ {A = ℕ} 0 1 = ap (λ (b : Bool). cond b 1 0) (sym g ∙ ap (λ (x : Reading). x.good) e) in absurd (omega arith)
-bad-is r (Fault p) e g = cc
+pub bad-is : (q : Number) {d : Damage} → Err d ≡ plain q → q ≡ Fault d.at
+bad-is (Value n a) e = let z : ◌≡◌ {A = ℕ} 0 1 = cc in absurd (omega arith)
+bad-is (Fault p) e = cc
 
 -- ---- what a number that was read is known to be
 

@@ -1,19 +1,20 @@
 -- The number at a place of a slice, as the code answers it.
-use Rattle.std.specs.Prelude.{true, false, List, ℕ, ◌+◌, ◌*◌, drop}
+use Rattle.std.specs.Prelude.{List, ℕ, Result, Ok, Err, ◌+◌, ◌*◌, drop}
 use Rattle.numbers_format.specs.Numbers.{span}
 use Rattle.numbers_format.specs.Parser.{Got, read_number}
 use Rattle.numbers_format.specs.Parser.Got.{value, fault}
-use Rattle.numbers_coded.specs.declared.Reading.{Reading}
+use Rattle.numbers_coded.specs.declared.Coded.{Coded}
+use Rattle.numbers_coded.specs.declared.Damage.{Damage}
 
 -- a number with the place behind it, or the place of the fault
 pub data Number : Type 0 where
   Value : ℕ → ℕ → Number
   Fault : ℕ → Number
 
--- the code has it as plain data
-abbrev pub plain : Number → Reading
-plain (Value n at) = record { good = true; value = n; at = at }
-plain (Fault p) = record { good = false; value = 0; at = p }
+-- the code has it as a Result
+abbrev pub plain : Number → Result Coded Damage
+plain (Value n at) = Ok (record { value = n; at = at })
+plain (Fault p) = Err (record { at = p })
 
 -- what was found behind so many bytes
 abbrev pub found : ℕ → Got → Number

@@ -5,44 +5,18 @@ ghost use Rattle.std.specs.Prelude.{◌≡◌, ◌+◌, ◌-◌, ◌*◌, ◌/�
 ghost use Rattle.std.proofs.lemmas.List.Edits.{sets};
 ghost use Rattle.numbers_format.specs.Numbers.{encode};
 ghost use Rattle.numbers_coded.specs.At.{plain, number_at, rest};
-ghost use Rattle.numbers_coded.specs.At.Number.{Value, Fault};
 
-// What is read at a place: a permitted number and the place behind it; or that none is there, and the place of the first byte at which none can
-// go on.
+// A number that was read, and the place behind it.
 #[derive(Clone, Copy)]
-pub struct Reading {
-    pub good: bool,
+pub struct Coded {
     pub value: u64,
     pub at: usize,
 }
 
-// A number, and the place behind it.
-pub fn found(value: u64, at: usize) -> Reading
-    ensures { result ≡ plain (Value value at) }
-{
-    Reading {
-        good: true,
-        value: value,
-        at: at,
-    }
-}
-
-// No number, and the place of the fault.
-pub fn fault(at: usize) -> Reading
-    ensures { result ≡ plain (Fault at) }
-{
-    Reading {
-        good: false,
-        value: 0,
-        at: at,
-    }
-}
-
-// A byte as a number.
-pub fn wide(b: u8) -> u64
-    ensures { result ≡ b }
-{
-    b as u64
+// The place of the first byte at which no permitted number can go on.
+#[derive(Clone, Copy)]
+pub struct Damage {
+    pub at: usize,
 }
 
 // The least number that may follow the group g, where another group has to follow.
@@ -60,79 +34,81 @@ fn least_after(lo: u64, g: u64) -> u64
 fn most_after(hi: u64, g: u64) -> u64
     ensures { result ≡ (hi - g) / 128 }
 {
-    if hi < g {
-        return 0;
-    }
-    (hi - g) / 128
+    hi.saturating_sub(g) / 128
 }
 
 // A number behind its first group, group by group: the rest is from low to high.
-fn rest_at(s: &[u8], at: usize, low: u64, high: u64, first: u64) -> Reading
-    requires { first + 128 * high < 2 ^ 64 }
+fn rest_at(s: &[u8], at: usize, low: u64, high: u64, first: u64) -> Result<Coded, Damage>
+    requires at_in_bounds { at ≤ length s.now }
+    requires high_bound { first + 128 * high < 2 ^ 64 }
     ensures { result ≡ plain (rest s.now at first 128 low high) }
 {
-    let mut i = at;
     let mut lo = low;
     let mut hi = high;
     let mut value = first;
     let mut unit: u64 = 128;
-    while i < s.len() {
-        let b = wide(s[i]);
+    for i in at..s.len() {
+        let b = u64::from(s[i]);
         if b < 128 {
             if b < lo {
-                return fault(i);
+                return Err(Damage { at: i });
             }
             if hi < b {
-                return fault(i);
+                return Err(Damage { at: i });
             }
-            return found(value + unit * b, i + 1);
+            return Ok(Coded {
+                value: value + unit * b,
+                at: i + 1,
+            });
         }
         let g = b - 128;
         let next_lo = least_after(lo, g);
         let next_hi = most_after(hi, g);
         if next_hi < next_lo {
-            return fault(i);
+            return Err(Damage { at: i });
         }
         value = value + g * unit;
         unit = unit * 128;
         lo = next_lo;
         hi = next_hi;
-        i += 1;
     }
-    fault(i)
+    Err(Damage { at: s.len() })
 }
 
 // The number from low to high at a place of s, where its first group is g and others follow.
-fn long_at(s: &[u8], at: usize, low: u64, high: u64, g: u64) -> Reading
+fn long_at(s: &[u8], at: usize, low: u64, high: u64, g: u64) -> Result<Coded, Damage>
     requires { (at < length s.now) × (get_or s.now at 0 ≡ 128 + g) × (g < 128) }
     ensures { result ≡ plain (number_at s.now at low high) }
 {
     let lo = least_after(low, g);
     let hi = most_after(high, g);
     if hi < lo {
-        return fault(at);
+        return Err(Damage { at });
     }
     rest_at(s, at + 1, lo, hi, g)
 }
 
 // The number from low to high at a place of s; most take one byte.
-pub fn number_at(s: &[u8], at: usize, low: u64, high: u64) -> Reading
+pub fn number_at(s: &[u8], at: usize, low: u64, high: u64) -> Result<Coded, Damage>
     ensures { result ≡ plain (number_at s.now at low high) }
 {
     if at < s.len() {
-        let b = wide(s[at]);
+        let b = u64::from(s[at]);
         if b < 128 {
             if b < low {
-                return fault(at);
+                return Err(Damage { at });
             }
             if high < b {
-                return fault(at);
+                return Err(Damage { at });
             }
-            return found(b, at + 1);
+            return Ok(Coded {
+                value: b,
+                at: at + 1,
+            });
         }
         return long_at(s, at, low, high, b - 128);
     }
-    fault(at)
+    Err(Damage { at })
 }
 
 // A reader set on an image, which remembers how far it has read.
@@ -142,24 +118,20 @@ pub struct Reader<'a> {
     pub at: usize,
 }
 
-// A reader at the image's first byte.
-pub fn set_on<'a>(image: &'a [u8]) -> Reader<'a>
-    ensures { (result.image ≡ image.entry) × (result.at ≡ 0) }
-{
-    Reader { image, at: 0 }
+impl<'a> Reader<'a> {
+    // A reader at the image's first byte.
+    pub fn new(image: &'a [u8]) -> Reader<'a>
+        ensures { (result.image ≡ image.entry) × (result.at ≡ 0) }
+    {
+        Reader { image, at: 0 }
+    }
 }
 
 // How many bytes a number takes.
 pub fn number_size(n: u64) -> usize
     ensures { result ≡ length (encode n) }
 {
-    let mut x = n;
-    let mut k: usize = 1;
-    while 128 <= x {
-        x = x / 128;
-        k += 1;
-    }
-    k
+    if n < 128 { 1 } else { 1 + number_size(n / 128) }
 }
 
 // Puts the bytes of a number into the room, from a place on, and gives the place behind them.
@@ -167,6 +139,7 @@ pub fn put_number(room: &mut [u8], at: usize, n: u64) -> usize
     requires { at + length (encode n) ≤ length room.old }
     ensures { (result ≡ at + length (encode n)) × (room.new ≡ sets room.old at (encode n)) }
 {
+    // A while: how many groups go before the last shows as the number runs out.
     let mut x = n;
     let mut i = at;
     while 128 <= x {
@@ -184,9 +157,5 @@ pub fn copy_bytes(room: &mut [u8], to: usize, s: &[u8], from: usize, n: usize)
     requires n_in_bounds_2 { from + n ≤ length s.now }
     ensures { room.new ≡ sets room.old to (take n (drop from s.now)) }
 {
-    let mut i = 0;
-    while i < n {
-        room[to + i] = s[from + i];
-        i += 1;
-    }
+    room[to..to + n].copy_from_slice(&s[from..from + n]);
 }

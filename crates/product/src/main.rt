@@ -7,13 +7,12 @@ use std::env::{Env, FillError};
 // Where a line on standard error cannot be written either, nothing is left to do.
 fn answer_input(rt: &HostRuntime) {
     let mut text = [0u8; 8193];
-    let reading = program_stream::read_text(&mut rt.stdin(), &mut text);
-    if reading.failed {
+    let Ok(count) = program_stream::read_text(&mut rt.stdin(), &mut text) else {
         let _ = eprintln!(rt; "product: cannot read standard input");
         return;
-    }
+    };
     let mut out = [0u8; 8192];
-    let written = product_answer::answer(&text[..reading.count], &mut out);
+    let written = product_answer::answer(&text[..count], &mut out);
     if rt.write_all(&out[..written]).is_err() {
         let _ = eprintln!(rt; "product: cannot write the answer");
     }

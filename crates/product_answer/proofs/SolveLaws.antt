@@ -1,6 +1,6 @@
 -- The numbers as they are held stand for the problem's elements, so C has the sums that the answer writes.
 use Rattle.numbers.proofs.Kit.{◌≡◌, refl, sym, ap, ap₂, ◌∙◌, true, List, [], ◌∷◌, ◌++◌, map, Option, none, some, ℕ, zero, suc, ◌+◌, ◌*◌, ◌-◌, ◌/◌, ◌%◌, ◌^◌}
-use Rattle.numbers.proofs.Kit.{◌≤◌, ◌<◌, min, mul-le-mul, arith, length, take, drop, get_or, length-append, length-take, List·getD-append, get_or-take}
+use Rattle.numbers.proofs.Kit.{◌<◌, min, mul-le-mul, arith, length, drop, get_or, length-append, List·getD-append, get_or-take}
 use Rattle.numbers.proofs.Kit.{get_or-drop, get_or-append-add, ℤ, pos, negsuc, ltb-true}
 use Rattle.numbers.specs.Reduce.{signed, reduce}
 use Rattle.machine.specs.Tests.{every}
@@ -10,14 +10,13 @@ use Rattle.run.specs.Plan.{shape, product_of}
 use Rattle.run.specs.Start.{format}
 use Rattle.product_memory.specs.Memory.{product_machine, job_for, filled}
 use Rattle.product_memory.proofs.MemoryLaws.{level-signed, sum-here}
-use Rattle.product_text.specs.declared.Parsed.{Parsed}
-use Rattle.product_text.specs.declared.Parsed.TheVariants.{Posed, Refused}
+use Rattle.std.specs.Prelude.{Some, None}
 use Rattle.product_text.specs.Problem.{Problem, problem, nth, holds}
 use Rattle.text_lines.specs.Lines.{accepted, refused}
 use Rattle.product_text.specs.Output.{steps_of, modulus, sum_at, product_rows, answer_text, output_for}
-use Rattle.text_lines.specs.Parts.{Wrote, signed_all, rows_of}
-use Rattle.product_text.specs.Parts.{held, parsed_as, ElementsIn}
-use Rattle.product_text.proofs.ProblemLaws.{Known, problem-known, held_at, format-sew, format-half}
+use Rattle.text_lines.specs.Parts.{signed_all, rows_of}
+use Rattle.product_text.specs.Parts.{held, ElementsIn}
+use Rattle.product_text.proofs.ProblemLaws.{Known, asked, problem-known, held_at, format-sew, format-half}
 use Rattle.product_text.proofs.OutputLaws.{rows_are}
 
 -- ---- a number as it is held
@@ -46,9 +45,8 @@ abbrev laid : (numbers : List ℕ) (sew m k n : ℕ) → List ℕ → List ℕ
 laid numbers sew m k n mem = filled (sew / 8) m k n (λ q. get_or numbers (5 + q) 0) (λ q. get_or numbers (5 + m * k + q) 0) mem
 
 -- what the calls of `solve` leave, written, is the answer: full is the memory with the elements, c what was read of C, q the modulus
-abbrev pub Solved : (numbers answer : List ℕ) → Parsed → Type 0
-Solved numbers answer Refused = Unit
-Solved numbers answer (Posed sew f m k n) =
+abbrev pub Solved : (numbers answer : List ℕ) (sew f m k n : ℕ) → Type 0
+Solved numbers answer sew f m k n =
     (mem full c : List ℕ) (count q : ℕ) → length mem ≡ 3072 → full ≡ laid numbers sew m k n mem → length c ≡ 256
     → count ≡ steps (shape (job_for sew f m k n full)) → ((i j : ℕ) → i < m → j < n → get_or c (i * n + j) 0 ≡ product_of (job_for sew f m k n full) i j)
     → q ≡ 256 ^ (f * (sew / 8)) → accepted count (rows_of m n (signed_all q c)) ≡ answer
@@ -76,7 +74,7 @@ module _ (p : Problem) (K : Known p) (numbers : List ℕ) (held_in : ElementsIn 
       ap (λ (x : ℕ). signed sew_modulus (get_or numbers x 0 % sew_modulus)) e
       ∙ element-is (length p.a + q) (omega (arith, K.length-a)) ∙ get_or-append-add p.a p.b q (pos 0)
 
-  solved-by : Solved numbers (accepted (steps_of p) (product_rows p)) (parsed_as (some p))
+  solved-by : Solved numbers (accepted (steps_of p) (product_rows p)) p.sew p.factor p.m p.k p.n
   unfolding steps_of
   solved-by mem full c count q len is-laid size counted product is-q =
       let sums : (i j : ℕ) → i < p.m → j < p.n → get_or c (i * p.n + j) 0 ≡ reduce (modulus p) (sum_at p i j) = λ i j hi hj.
@@ -88,35 +86,25 @@ module _ (p : Problem) (K : Known p) (numbers : List ℕ) (held_in : ElementsIn 
 
 -- ---- the answer to a text
 
-pub solved : (t numbers : List ℕ) → ElementsIn (problem t) numbers → Solved numbers (answer_text t) (parsed_as (problem t))
+pub solved : (t numbers : List ℕ) (sew f m k n : ℕ) → Some (sew ∷ f ∷ m ∷ k ∷ n ∷ []) ≡ asked (problem t) → ElementsIn (problem t) numbers
+    → Solved numbers (answer_text t) sew f m k n
 unfolding answer_text
-solved t numbers h = go (problem t) refl h
+solved t numbers sew f m k n = go (problem t) refl
   where
-    go : (o : Option Problem) → problem t ≡ o → ElementsIn o numbers → Solved numbers (output_for o) (parsed_as o)
-    go none e h = tt
-    go (some p) e h = solved-by p (problem-known t p e) numbers h
+    go : (o : Option Problem) → problem t ≡ o → Some (sew ∷ f ∷ m ∷ k ∷ n ∷ []) ≡ asked o → ElementsIn o numbers → Solved numbers (output_for o) sew f m k n
+    go none e s h = let z : ◌≡◌ {A = ℕ} 0 1 = cc in absurd (omega arith)
+    go (some p) e s h =
+        let sew-is : sew ≡ p.sew = cc in
+        let f-is : f ≡ p.factor = cc in
+        let m-is : m ≡ p.m = cc in
+        let k-is : k ≡ p.k = cc in
+        let n-is : n ≡ p.n = cc in
+        rw (sew-is, f-is, m-is, k-is, n-is) (solved-by p (problem-known t p e) numbers h)
 
--- what `solve` requires
-abbrev pub Fit : Parsed → Type 0
-Fit Refused = Unit
-Fit (Posed sew f m k n) = ((m ≤ 16) × ((k ≤ 16) × (n ≤ 16))) × (format 32 sew f ≡ true)
-
-pub posed-fits : (t : List ℕ) → Fit (parsed_as (problem t))
-posed-fits t = go (problem t) refl
-  where
-    go : (o : Option Problem) → problem t ≡ o → Fit (parsed_as o)
-    go none e = tt
-    go (some p) e = let K = problem-known t p e in ((K.small-m, (K.small-k, K.small_n)), K.formatted)
-
-pub refused-is : (t : List ℕ) → Refused ≡ parsed_as (problem t) → refused ≡ answer_text t
+pub refused-is : (t : List ℕ) → None ≡ asked (problem t) → refused ≡ answer_text t
 unfolding answer_text
 refused-is t h = go (problem t) h
   where
-    go : (o : Option Problem) → Refused ≡ parsed_as o → refused ≡ output_for o
+    go : (o : Option Problem) → None ≡ asked o → refused ≡ output_for o
     go none e = refl
     go (some p) e = let z : ◌≡◌ {A = ℕ} 0 1 = cc in absurd (omega arith)
-
--- a text that was written from the front on is what stands there
-pub wrote-all : (entry exit t : List ℕ) (r : ℕ) → length entry ≡ 8192 → Wrote entry 0 exit r t
-    → ((r ≤ 8192) × (length exit ≡ 8192)) × ((take r exit ≡ t) × (drop r exit ≡ drop r entry))
-wrote-all entry exit t r e w = ((omega (arith, length-take r exit, ap length w.text, w.to, w.same), w.same ∙ e), (w.text, w.rest))

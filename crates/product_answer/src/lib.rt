@@ -1,20 +1,19 @@
 // The text that `product` writes for the text that it reads.
 #![tactic(auto)]
 
-ghost use Rattle.std.specs.Prelude.{◌≡◌, true, List, ℕ, ◌+◌, ◌*◌, ◌^◌, ◌≤◌, ◌<◌, length, take, drop, get_or};
+ghost use Rattle.std.specs.Prelude.{◌≡◌, List, ℕ, ◌+◌, ◌*◌, ◌^◌, ◌≤◌, ◌<◌, length, take, drop, get_or, Some};
+ghost use Rattle.numbers.specs.Kit.{Option·map};
 ghost use Rattle.numbers.specs.Tile.{put_row};
 ghost use Rattle.unit_element.specs.Element.{Short};
 ghost use Rattle.run.specs.Words.{steps};
 ghost use Rattle.run.specs.Plan.{shape, product_of};
-ghost use Rattle.run.specs.Start.{format};
 ghost use Rattle.product_memory.specs.Memory.{job_for};
-ghost use Rattle.product_text.specs.declared.Parsed.TheVariants.{Posed};
 ghost use Rattle.product_text.specs.Problem.{problem};
 ghost use Rattle.product_text.specs.Output.{answer_text};
 ghost use Rattle.text_lines.specs.Parts.{Wrote};
-ghost use Rattle.product_text.specs.Parts.{parsed_as, ElementsIn};
+ghost use Rattle.product_text.specs.Parts.{returned, sizes, sizes_of, ElementsIn};
 
-use product_text::Parsed;
+use product_memory::Product;
 
 // Lays the a numbers from 5 on at A's place, and the b after them at B's.
 fn fill(memory: &mut [u8], numbers: &[u64], width: usize, a: usize, b: usize)
@@ -32,23 +31,28 @@ fn fill(memory: &mut [u8], numbers: &[u64], width: usize, a: usize, b: usize)
 }
 
 // Runs the product of the matrices that lie in memory, and reads the elements of C's place. Returns the count of steps.
-fn multiply(c: &mut [u64], memory: &mut [u8], sew: u64, factor: u64, m: u64, k: u64, n: u64) -> u64
-    requires m_bound { (m ≤ 16) × ((k ≤ 16) × (n ≤ 16)) }
-    requires factor_value { format 32 sew factor ≡ true }
+fn multiply(c: &mut [u64], memory: &mut [u8], product: &Product) -> u64
     requires memory_len { (length memory.old ≡ 3072) × (length c.old ≡ 256) }
-    ensures value { result ≡ steps (shape (job_for sew factor m k n memory.old)) }
-    ensures by_index { (i j : ℕ) → i < m → j < n
-        → get_or c.new (i * n + j) 0 ≡ product_of (job_for sew factor m k n memory.old) i j }
+    ensures value { result ≡ steps (shape (job_for product.now.sew product.now.factor product.now.m product.now.k product.now.n memory.old)) }
+    ensures by_index { (i j : ℕ) → i < product.now.m → j < product.now.n
+        → get_or c.new (i * product.now.n + j) 0
+        ≡ product_of (job_for product.now.sew product.now.factor product.now.m product.now.k product.now.n memory.old) i j }
 {
     let mut registers = [0u8; 512];
     let mut marks = [0u8; 512];
     let none: [u64; 0] = [];
     let seals = [0u8; 200];
-    let started = unit_start::start(64, 256, 32, 0, &none, &registers, &mut marks);
-    let machine = started.machine;
-    let plan = product_memory::plan_for(sew, factor, m, k, n);
-    let finished = run_whole::whole(plan, machine, &seals, &mut registers, &mut marks, memory);
-    let width = (factor * (sew / 8)) as usize;
+    let machine = unit_start::start(64, 256, 32, 0, &none, &registers, &mut marks).unwrap();
+    let plan = product.plan();
+    let finished = run_whole::whole(
+        plan,
+        machine,
+        &seals,
+        &mut registers,
+        &mut marks,
+        memory,
+    ).unwrap();
+    let width = product.wide() as usize;
     product_memory::read_elements(c, memory, 2048, width);
     finished.count
 }
@@ -58,32 +62,28 @@ fn modulus(w: u64) -> u64
     requires { Short w }
     ensures { result ≡ 256 ^ w }
 {
-    if w == 1 {
-        return 256;
+    match w {
+        1 => 256,
+        2 => 65536,
+        _ => 0x1_0000_0000,
     }
-    if w == 2 {
-        return 65536;
-    }
-    0x1_0000_0000
 }
 
-// Solves the problem of these numbers, whose elements stand in `numbers`, and writes the answer. Returns where that ends.
-fn solve(out: &mut [u8], numbers: &[u64], sew: u64, factor: u64, m: u64, k: u64, n: u64) -> usize
-    requires m_bound { (m ≤ 16) × ((k ≤ 16) × (n ≤ 16)) }
-    requires factor_value { format 32 sew factor ≡ true }
+// Solves the product whose elements stand in `numbers`, and writes the answer. Returns where that ends.
+fn solve(out: &mut [u8], numbers: &[u64], product: &Product) -> usize
     requires numbers_len { (length numbers.now ≡ 517) × (8192 ≤ length out.old) }
-    ensures { (t : List ℕ) → Posed sew factor m k n ≡ parsed_as (problem t) → ElementsIn (problem t) numbers.now
+    ensures { (t : List ℕ) → Some (sizes product.now) ≡ returned (Option·map sizes_of (problem t)) → ElementsIn (problem t) numbers.now
         → Wrote out.old 0 out.new result (answer_text t) }
 {
     let mut memory = [0u8; 3072];
     let mut c = [0u64; 256];
-    let width = sew / 8;
-    let a = (m * k) as usize;
-    let b = (k * n) as usize;
-    fill(&mut memory, numbers, width as usize, a, b);
-    let count = multiply(&mut c, &mut memory, sew, factor, m, k, n);
-    let q = modulus(factor * width);
-    text_lines::put_accepted(out, count, q, &c, m as usize, n as usize)
+    let width = product.width() as usize;
+    let a = (product.m * product.k) as usize;
+    let b = (product.k * product.n) as usize;
+    fill(&mut memory, numbers, width, a, b);
+    let count = multiply(&mut c, &mut memory, product);
+    let q = modulus(product.wide());
+    text_lines::put_accepted(out, count, q, &c, product.m as usize, product.n as usize)
 }
 
 // Writes the answer to a text, and returns its length.
@@ -94,13 +94,7 @@ pub fn answer(text: &[u8], out: &mut [u8; 8192]) -> usize
 {
     let mut numbers = [0u64; 517];
     match product_text::parse(text, &mut numbers) {
-        Parsed::Posed {
-            sew,
-            factor,
-            m,
-            k,
-            n,
-        } => solve(out, &numbers, sew, factor, m, k, n),
-        Parsed::Refused => text_lines::put_refused(out),
+        Some(product) => solve(out, &numbers, &product),
+        None => text_lines::put_refused(out),
     }
 }

@@ -1,23 +1,28 @@
 -- Laws of the problem that numbers pose: its tests, of the numbers as the code holds them.
-use Rattle.numbers.proofs.Kit.{◌≡◌, refl, sym, ap, ap₂, ◌∙◌, subst, ◌⊎◌, inl, inr, Bool, true, false, not, ◌||◌, cond, List, [], ◌∷◌, ◌++◌, map, Option}
-use Rattle.numbers.proofs.Kit.{none, some, Option·map, ℕ, zero, suc, ◌+◌, ◌*◌, ◌-◌, ◌^◌, ◌≤◌, ◌<◌, min, mul-le-mul, arith, add-one, leb, ltb, eqb, length}
-use Rattle.numbers.proofs.Kit.{take, drop, get_or, length-take, length-drop, length-map, drop_of_length-le, take-append-drop, drop-cons, length-take-le, ℤ}
-use Rattle.numbers.proofs.Kit.{pos, negsuc, nat_abs, leb-true, eqb-true, ne_eqb, le-leb, lt-leb, lt-ltb, le-ltb}
+use Rattle.numbers.proofs.Kit.{◌≡◌, refl, sym, ap, ap₂, ◌∙◌, subst, ◌⊎◌, inl, inr, Bool, true, false, not, ◌||◌, ◌&&◌, cond, List, [], ◌∷◌, ◌++◌, map, Option}
+use Rattle.numbers.proofs.Kit.{none, some, Option·map, ℕ, zero, suc, ◌+◌, ◌*◌, ◌-◌, ◌^◌, ◌≤◌, ◌<◌, min, mul-le-mul, arith, leb, ltb, eqb, length}
+use Rattle.numbers.proofs.Kit.{take, drop, get_or, length-take, length-drop, length-map, take-append-drop, length-take-le, ℤ}
+use Rattle.numbers.proofs.Kit.{pos, negsuc, nat_abs, leb-true, eqb-true, le-leb, lt-leb, lt-ltb, le-ltb}
 use Rattle.numbers.proofs.BlockLaws.{le-or-lt}
 use Rattle.machine.specs.Tests.{all, every, all_of, is_in}
 use Rattle.machine.proofs.TestLaws.{Each, every-each, each-every, each, each_in, or-not, all-at, false-true}
 use Rattle.run.specs.Start.{format}
 use Rattle.run_plan.proofs.PlanLaws.{sews, factors}
-use Rattle.product_text.specs.declared.Parsed.{Parsed}
-use Rattle.product_text.specs.declared.Parsed.TheVariants.{Posed, Refused}
+use Rattle.std.specs.List.{list_all}
+use Rattle.std.specs.Prelude as code
+use Rattle.std.specs.Prelude.{None, Some}
 use Rattle.product_text.specs.Text.{numbers}
 use Rattle.product_text.specs.Problem.{Problem, problem, nth, tests, posed, posed_by, from_zero, holds}
-use Rattle.product_text.specs.Parts.{held, held_in, front, put_front, size_held, inside, parsed_as, read_into, ElementsIn}
+use Rattle.product_text.specs.Parts.{held, held_in, front, put_front, size_held, inside, returned, sizes_of, read_into, ElementsIn}
 use Rattle.text_lines.proofs.ListLaws.{drop-map}
 use Rattle.product_text.proofs.ListLaws.{drop-take}
 
 never : {A : Type 0} → ◌≡◌ {A = ℕ} 0 1 → A
 never e = absurd (omega arith)
+
+-- SEW, f, m, k and n of a problem, as the code returns them
+abbrev pub asked : Option Problem → code.Option (List ℕ)
+asked o = returned (Option·map sizes_of o)
 
 -- ---- numbers as the code holds them
 
@@ -57,15 +62,9 @@ held_at i [] h = absurd (omega arith)
 held_at zero (z ∷ zs) h = refl
 held_at (suc i) (z ∷ zs) h = held_at i zs (omega arith)
 
--- for the loop over the elements
-pub each_more : (h : ℕ) (xs : List ℕ) (i : ℕ) → i < length xs → inside h (get_or xs i 0) ≡ true → all_of (inside h) (drop i xs) ≡ all_of (inside h) (drop (i + 1) xs)
-each_more h xs i l e = rw (add-one, drop-cons xs i 0 l, e)
-
-pub each-not : (h : ℕ) (xs : List ℕ) (i : ℕ) → i < length xs → inside h (get_or xs i 0) ≡ false → all_of (inside h) (drop i xs) ≡ false
-each-not h xs i l e = rw (drop-cons xs i 0 l, e)
-
-pub each-end : (h : ℕ) (xs : List ℕ) (i : ℕ) → length xs ≤ i → all_of (inside h) (drop i xs) ≡ true
-each-end h xs i l = rw (drop_of_length-le xs l)
+pub all-of : (f : ℕ → Bool) (xs : List ℕ) → list_all f xs ≡ all_of f xs
+all-of f [] = refl
+all-of f (x ∷ xs) = ap (λ (b : Bool). f x && b) (all-of f xs)
 
 -- ---- formats
 
@@ -130,9 +129,6 @@ module _ (zs : List ℤ) (xs : List ℕ) (e : map held zs ≡ xs) where
   same_length : length xs ≡ length zs
   same_length = ap length (sym e) ∙ length-map zs held
 
-  pub too_few : length xs < 5 → Refused ≡ parsed_as (posed (some zs))
-  too_few l = rw (one-fails (tests zs (posed_by zs)) 0 (ne_eqb (length zs) (5 + (posed_by zs).m * (posed_by zs).k + (posed_by zs).k * (posed_by zs).n) (λ g. omega (arith, same_length))))
-
   module _ (s f m k n : ℕ) (F : Five xs s f m k n) where
     at : (i x : ℕ) → i < 5 → x ≡ size_held (get_or xs i 0) → x ≡ size_held (held (nth zs i))
     at i x h g = g ∙ ap size_held (ap (λ (ys : List ℕ). get_or ys i 0) (sym e) ∙ held_at i zs (omega (arith, F.long, same_length)))
@@ -174,7 +170,7 @@ module _ (zs : List ℤ) (xs : List ℕ) (e : map held zs ≡ xs) where
         ) in
         each-every (held_tests xs s f m k n) (to_held q a)
 
-    check-is : (b : Bool) → every (held_tests xs s f m k n) ≡ b → cond b (Posed s f m k n) Refused ≡ parsed_as (posed (some zs))
+    check-is : (b : Bool) → every (held_tests xs s f m k n) ≡ b → cond b (Some (s ∷ f ∷ m ∷ k ∷ n ∷ [])) None ≡ asked (posed (some zs))
     check-is true t =
         let a = every-each (held_tests xs s f m k n) t in
         let b = format-bounds s f a.0 in
@@ -190,14 +186,14 @@ module _ (zs : List ℤ) (xs : List ℕ) (e : map held zs ≡ xs) where
         sym (rw (each-every (tests zs (posed_by zs)) (from-held q signs a)) (rw (d0.1, d1.1, d2.1, d3.1, d4.1)))
     check-is false t = go (every (tests zs (posed_by zs))) refl
       where
-        go : (b : Bool) → every (tests zs (posed_by zs)) ≡ b → Refused ≡ parsed_as (cond b (some (posed_by zs)) none)
+        go : (b : Bool) → every (tests zs (posed_by zs)) ≡ b → None ≡ asked (cond b (some (posed_by zs)) none)
         go true r = absurd (false-true (sym t ∙ passed r))
         go false r = refl
 
-    pub refuses : (i : ℕ) → get_or (held_tests xs s f m k n) i true ≡ false → Refused ≡ parsed_as (posed (some zs))
+    pub refuses : (i : ℕ) → get_or (held_tests xs s f m k n) i true ≡ false → None ≡ asked (posed (some zs))
     refuses i t = check-is false (one-fails (held_tests xs s f m k n) i t)
 
-    pub accepts : Each (held_tests xs s f m k n) → Posed s f m k n ≡ parsed_as (posed (some zs))
+    pub accepts : Each (held_tests xs s f m k n) → Some (s ∷ f ∷ m ∷ k ∷ n ∷ []) ≡ asked (posed (some zs))
     accepts t = check-is true (each-every (held_tests xs s f m k n) t)
 
 -- ---- the problem of a text
@@ -224,8 +220,8 @@ unfolding problem
 problem-is t o h e = rw (le-leb (length t) 8192 h) (ap posed e)
 
 -- what `parse` returns and leaves
-abbrev pub Gives : List ℕ → Parsed → List ℕ → Type 0
-Gives t r out = (r ≡ parsed_as (problem t)) × ElementsIn (problem t) out
+abbrev pub Gives : List ℕ → code.Option (List ℕ) → List ℕ → Type 0
+Gives t r out = (r ≡ asked (problem t)) × ElementsIn (problem t) out
 
 -- what was read stands in the buffer, and nothing of a text that is too long
 pub read_none : (t out : List ℕ) → 8192 < length t → out ≡ read_into t out
@@ -234,15 +230,15 @@ read_none t out h = sym (rw (lt-leb (length t) 8192 h))
 pub read_some : (t out : List ℕ) → length t ≤ 8192 → put_front (front t) out ≡ read_into t out
 read_some t out h = sym (rw (le-leb (length t) 8192 h))
 
-pub parse-long : (t out : List ℕ) → 8192 < length t → Gives t Refused out
+pub parse-long : (t out : List ℕ) → 8192 < length t → Gives t None out
 unfolding problem
 parse-long t out h = rw (lt-leb (length t) 8192 h) (refl, tt)
 
-pub parse-many : (t out : List ℕ) → length t ≤ 8192 → length out ≡ 517 → ((l : List ℕ) → held_in t ≡ some l → length out < length l) → Gives t Refused out
+pub parse-many : (t out : List ℕ) → length t ≤ 8192 → length out ≡ 517 → ((l : List ℕ) → held_in t ≡ some l → length out < length l) → Gives t None out
 unfolding held_in
 parse-many t out h k f = go (numbers t) refl f
   where
-    go : (o : Option (List ℤ)) → numbers t ≡ o → ((l : List ℕ) → Option·map (map held) o ≡ some l → length out < length l) → Gives t Refused out
+    go : (o : Option (List ℤ)) → numbers t ≡ o → ((l : List ℕ) → Option·map (map held) o ≡ some l → length out < length l) → Gives t None out
     go none e f = rw (problem-is t none h e) (refl, tt)
     go (some zs) e f = rw (problem-is t (some zs) h e ∙ too_many zs (omega (arith, f (map held zs) refl, length-map zs held))) (refl, tt)
 
@@ -259,8 +255,8 @@ elements-in zs out n h e = go (every (tests zs (posed_by zs))) refl
         ap (map held) (take-append-drop (p.m * p.k) (drop 5 zs)) ∙ sym (drop-map held 5 zs) ∙ ap (drop 5) e
         ∙ ap (λ (x : ℕ). drop 5 (take x out)) (sym c) ∙ drop-take 5 (p.m * p.k + p.k * p.n) out
 
-pub parse-all : (t out : List ℕ) (n : ℕ) (r : Parsed) → length t ≤ 8192 → n ≤ length out → held_in t ≡ some (take n out)
-    → ((zs : List ℤ) → map held zs ≡ take n out → r ≡ parsed_as (posed (some zs))) → Gives t r out
+pub parse-all : (t out : List ℕ) (n : ℕ) (r : code.Option (List ℕ)) → length t ≤ 8192 → n ≤ length out → held_in t ≡ some (take n out)
+    → ((zs : List ℤ) → map held zs ≡ take n out → r ≡ asked (posed (some zs))) → Gives t r out
 unfolding held_in
 parse-all t out n r h k e f = go (numbers t) refl e
   where

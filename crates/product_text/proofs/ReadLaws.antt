@@ -1,178 +1,109 @@
 -- Laws of words and numbers, for the functions that read.
-use Rattle.numbers.proofs.Kit.{◌≡◌, refl, sym, ap, ap₂, ◌∙◌, ◌⊎◌, inl, inr, Bool, true, false, cond, List, [], ◌∷◌, ◌++◌, append_assoc, append-nil, map}
-use Rattle.numbers.proofs.Kit.{Option, none, some, Option·map, ℕ, zero, suc, ◌+◌, ◌*◌, ◌-◌, ◌≤◌, ◌<◌, min, sub_self, arith, add-one, leb, length, take}
-use Rattle.numbers.proofs.Kit.{drop, get_or, set, length-append, length-take, length-drop, take-append-drop, drop_of_length-le, drop-cons, drop-drop}
-use Rattle.numbers.proofs.Kit.{drop-set-lt, length-take-le, take_all, take-append_seam, take-suc, take-suc-set, get_or-drop, ℤ, pos, negsuc, neg_ℤ, leb-true}
-use Rattle.numbers.proofs.Kit.{ne_eqb}
-use Rattle.machine.proofs.TestLaws.{and_left, and_right}
-use Rattle.product_text.specs.declared.Word.TheVariants.{Value, Other}
-use Rattle.product_text.specs.Text.{separator, keep, words_from, words, digit, value_from, number, numbers, before}
-use Rattle.product_text.specs.Parts.{held, held_in, at_front, front_of, front, put_front, onto, digits_word, held_word}
+use Rattle.numbers.proofs.Kit.{◌≡◌, refl, sym, ap, ap₂, ◌∙◌, Bool, true, false, cond, List, [], ◌∷◌, ◌++◌, append_assoc, append-nil, map}
+use Rattle.numbers.proofs.Kit.{Option, none, some, Option·map, ℕ, suc, ◌+◌, ◌*◌, ◌-◌, ◌≤◌, ◌<◌, min, arith, add-one, length, take}
+use Rattle.numbers.proofs.Kit.{drop, get_or, set, length-append, length-take, take-append-drop, drop_of_length-le, drop-cons, drop-drop}
+use Rattle.numbers.proofs.Kit.{drop-set-lt, length-take-le, take_all, take-append_seam, take-suc-set, ℤ}
+use Rattle.numbers.proofs.Kit.{not, eqb, ne_eqb}
+use Rattle.std.specs.Prelude.{Some, None}
+use Rattle.std.specs.List.{filter, slice_split, onto_first}
+use Rattle.std.proofs.lemmas.List.Splits.{length-slice_split}
+use Rattle.product_text.specs.Text.{separator, keep, words_from, words, digit, value_from, number, numbers_of, before}
+use Rattle.product_text.specs.Parts.{returned, held, at_front, front_of, put_front, onto, kept}
 
 never : {A : Type 0} → ◌≡◌ {A = ℕ} 0 1 → A
 never e = absurd (omega arith)
 
 -- ---- words
 
--- a separator in front is nothing
-pub skip-one : (s : List ℕ) (i : ℕ) → i < length s → separator (get_or s i 0) ≡ true → words (drop (i + 1) s) ≡ words (drop i s)
-skip-one s i h e = rw (add-one, drop-cons s i 0 h, e)
+-- a part between two separators is a word, unless it is empty
+abbrev pub some_byte : List ℕ → Bool
+some_byte w = not (eqb (length w) 0)
 
-keep_some : (w : List ℕ) (ws : List (List ℕ)) → zero < length w → keep w ws ≡ w ∷ ws
-keep_some [] ws h = absurd (omega arith)
-keep_some (b ∷ w) ws h = refl
+-- what was read of the first word stands before the first part
+abbrev before_first : List ℕ → List (List ℕ) → List (List ℕ)
+before_first w [] = []
+before_first w (v ∷ vs) = (w ++ v) ∷ vs
 
--- a byte more of a word
-pub word_more : (s : List ℕ) (from i : ℕ) → from ≤ i → i < length s → separator (get_or s i 0) ≡ false
-    → words_from (take (i - from) (drop from s)) (drop i s) ≡ words_from (take (i + 1 - from) (drop from s)) (drop (i + 1) s)
-word_more s from i l h e =
-    let j : from + (i - from) ≡ i = omega arith in
-    let k : i + 1 - from ≡ suc (i - from) = omega arith in
-    let g : get_or (drop from s) (i - from) 0 ≡ get_or s i 0 = get_or-drop from s (i - from) 0 ∙ ap (λ (x : ℕ). get_or s x 0) j in
-    let t : take (suc (i - from)) (drop from s) ≡ take (i - from) (drop from s) ++ (get_or s i 0 ∷ []) =
-    take-suc (drop from s) (i - from) 0 (simp length-drop (omega arith)) ∙ ap (λ (x : ℕ). take (i - from) (drop from s) ++ (x ∷ [])) g in
-    rw (k, t, add-one, drop-cons s i 0 h, e)
+keep-is : (w : List ℕ) (ws : List (List ℕ)) → keep w (filter some_byte ws) ≡ filter some_byte (w ∷ ws)
+keep-is [] ws = refl
+keep-is (b ∷ w) ws = rw (ne_eqb (suc (length w)) 0 (λ e. absurd (omega arith)))
 
-pub word_first : (s : List ℕ) (from : ℕ) → from < length s → separator (get_or s from 0) ≡ false
-    → words (drop from s) ≡ words_from (take (from + 1 - from) (drop from s)) (drop (from + 1) s)
-word_first s from h e = (rw sub_self) ∙ word_more s from from (omega arith) h e
+before_none : (vs : List (List ℕ)) → before_first [] vs ≡ vs
+before_none [] = refl
+before_none (v ∷ vs) = refl
 
--- a word ends where the text does, or at a separator
-pub word-done : (s : List ℕ) (from i : ℕ) → from < i → i ≤ length s → (length s ≤ i) ⊎ ((i < length s) × (separator (get_or s i 0) ≡ true))
-    → words_from (take (i - from) (drop from s)) (drop i s) ≡ take (i - from) (drop from s) ∷ words (drop i s)
-word-done s from i l h d = go d
+before-onto : (w : List ℕ) (b : ℕ) (vs : List (List ℕ)) → 0 < length vs → before_first w (onto_first b vs) ≡ before_first (w ++ (b ∷ [])) vs
+before-onto w b [] h = absurd (omega arith)
+before-onto w b (v ∷ vs) h = ap (λ (x : List ℕ). x ∷ vs) (sym (append_assoc w (b ∷ []) v))
+
+words_from-is : (w t : List ℕ) → words_from w t ≡ filter some_byte (before_first w (slice_split separator t))
+words_from-is w [] = keep-is w [] ∙ ap (λ (x : List ℕ). filter some_byte (x ∷ [])) (sym (append-nil w))
+words_from-is w (b ∷ t) = go (words_from-is [] t) (words_from-is (w ++ (b ∷ [])) t) (separator b)
   where
-    long : zero < length (take (i - from) (drop from s))
-    long = simp (length-take, length-drop) (omega arith)
+    parts : List (List ℕ)
+    parts = slice_split separator t
 
-    go : (length s ≤ i) ⊎ ((i < length s) × (separator (get_or s i 0) ≡ true))
-        → words_from (take (i - from) (drop from s)) (drop i s) ≡ take (i - from) (drop from s) ∷ words (drop i s)
-    go (inl n) = rw (drop_of_length-le s n) (keep_some (take (i - from) (drop from s)) [] long)
-    go (inr (n, e)) = rw (drop-cons s i 0 n, e) (keep_some (take (i - from) (drop from s)) (words (drop (suc i) s)) long)
+    go : words_from [] t ≡ filter some_byte (before_first [] parts) → words_from (w ++ (b ∷ [])) t ≡ filter some_byte (before_first (w ++ (b ∷ [])) parts)
+        → (s : Bool) → cond s (keep w (words_from [] t)) (words_from (w ++ (b ∷ [])) t) ≡ filter some_byte (before_first w (cond s ([] ∷ parts) (onto_first b parts)))
+    go here on true =
+        ap (keep w) (here ∙ ap (filter some_byte) (before_none parts)) ∙ keep-is w parts ∙ ap (λ (x : List ℕ). filter some_byte (x ∷ parts)) (sym (append-nil w))
+    go here on false = on ∙ ap (filter some_byte) (sym (before-onto w b parts (omega (arith, length-slice_split separator t))))
+
+pub words-are : (t : List ℕ) → filter some_byte (slice_split separator t) ≡ words t
+words-are t = sym (words_from-is [] t ∙ ap (filter some_byte) (before_none (slice_split separator t)))
 
 -- ---- digits
 
 -- keeping a number to 2^32 at each digit keeps it to 2^32 at the end
-kept-digits : (t : List ℕ) (v : ℕ) → digits_word (value_from (min v 0x1_0000_0000) t) ≡ digits_word (value_from v t)
-kept-digits [] v = ap Value (omega arith)
+kept-digits : (t : List ℕ) (v : ℕ) → kept (value_from (min v 0x1_0000_0000) t) ≡ kept (value_from v t)
+kept-digits [] v = ap some (omega arith)
 kept-digits (d ∷ t) v = go (kept-digits t) (digit d)
   where
     same : min (10 * min v 0x1_0000_0000 + (d - 48)) 0x1_0000_0000 ≡ min (10 * v + (d - 48)) 0x1_0000_0000
     same = omega arith
 
-    go : ((x : ℕ) → digits_word (value_from (min x 0x1_0000_0000) t) ≡ digits_word (value_from x t)) → (b : Bool)
-        → digits_word (cond b (value_from (10 * min v 0x1_0000_0000 + (d - 48)) t) none) ≡ digits_word (cond b (value_from (10 * v + (d - 48)) t) none)
-    go ih true = sym (ih (10 * min v 0x1_0000_0000 + (d - 48))) ∙ ap (λ (x : ℕ). digits_word (value_from x t)) same ∙ ih (10 * v + (d - 48))
+    go : ((x : ℕ) → kept (value_from (min x 0x1_0000_0000) t) ≡ kept (value_from x t)) → (b : Bool)
+        → kept (cond b (value_from (10 * min v 0x1_0000_0000 + (d - 48)) t) none) ≡ kept (cond b (value_from (10 * v + (d - 48)) t) none)
+    go ih true = sym (ih (10 * min v 0x1_0000_0000 + (d - 48))) ∙ ap (λ (x : ℕ). kept (value_from x t)) same ∙ ih (10 * v + (d - 48))
     go ih false = refl
 
 pub digits_more : (s : List ℕ) (i v : ℕ) → i < length s → digit (get_or s i 0) ≡ true
-    → digits_word (value_from v (drop i s)) ≡ digits_word (value_from (min (10 * v + (get_or s i 0 - 48)) 0x1_0000_0000) (drop (i + 1) s))
+    → kept (value_from v (drop i s)) ≡ kept (value_from (min (10 * v + (get_or s i 0 - 48)) 0x1_0000_0000) (drop (i + 1) s))
 digits_more s i v h e = rw (add-one, drop-cons s i 0 h, e) (sym (kept-digits (drop (suc i) s) (10 * v + (get_or s i 0 - 48))))
 
-pub digits-other : (s : List ℕ) (i v : ℕ) → i < length s → digit (get_or s i 0) ≡ false → digits_word (value_from v (drop i s)) ≡ Other
-digits-other s i v h e = rw (drop-cons s i 0 h, e)
+-- ---- the numbers of words
 
-pub digits-end : (s : List ℕ) (i v : ℕ) → length s ≤ i → v ≤ 0x1_0000_0000 → digits_word (value_from v (drop i s)) ≡ Value v
-digits-end s i v h l = rw (drop_of_length-le s h) (ap Value (omega arith))
+-- as the code holds them
+abbrev pub held_of : List (List ℕ) → Option (List ℕ)
+held_of ws = Option·map (map held) (numbers_of ws)
 
-pub digit-range : (d : ℕ) → digit d ≡ true → (48 ≤ d) × (d ≤ 57)
-digit-range d e = (leb-true 48 d (and_left (leb 48 d) (leb d 57) e), leb-true d 57 (and_right (leb 48 d) (leb d 57) e))
+-- a number more
+value_before : (o : Option ℤ) (zs : Option (List ℤ)) (l : List ℕ) (x : ℕ) → returned (Option·map held o) ≡ Some x
+    → (Option·map (map held) (before o zs) ≡ onto (x ∷ []) (Option·map (map held) zs)) × (at_front o l ≡ x ∷ l)
+value_before none zs l x e = never (cc)
+value_before (some z) none l x e = let h : held z ≡ x = cc in (refl, ap (λ (y : ℕ). y ∷ l) h)
+value_before (some z) (some zs) l x e = let h : held z ≡ x = cc in (ap (λ (y : ℕ). some (y ∷ map held zs)) h, ap (λ (y : ℕ). y ∷ l) h)
 
--- ---- the number that a word is
+-- a word that is no number
+other-before : (o : Option ℤ) (zs : Option (List ℤ)) (l : List ℕ) → returned (Option·map held o) ≡ None → (Option·map (map held) (before o zs) ≡ none) × (at_front o l ≡ [])
+other-before none zs l e = (refl, refl)
+other-before (some z) zs l e = never (cc)
 
-abbrev pub minus : Option ℕ → Option ℤ
-minus o = Option·map (λ n. neg_ℤ (pos n)) o
+module _ (ws : List (List ℕ)) (i : ℕ) (w : List ℕ) (next : (i < length ws) × (w ≡ get_or ws i w)) where
+  ahead : drop i ws ≡ w ∷ drop (i + 1) ws
+  ahead = let h = next.0 in rw (add-one, drop-cons ws i w h) (ap (λ (v : List ℕ). v ∷ drop (suc i) ws) (sym next.1))
 
-abbrev pub plus : Option ℕ → Option ℤ
-plus o = Option·map pos o
+  pub value-ahead : (x : ℕ) → returned (Option·map held (number w)) ≡ Some x
+      → (held_of (drop i ws) ≡ onto (x ∷ []) (held_of (drop (i + 1) ws))) × (front_of (drop i ws) ≡ x ∷ front_of (drop (i + 1) ws))
+  value-ahead x e = rw ahead (value_before (number w) (numbers_of (drop (i + 1) ws)) (front_of (drop (i + 1) ws)) x e)
 
-pub number-empty : (w : List ℕ) → length w ≡ 0 → number w ≡ none
-number-empty [] e = refl
-number-empty (b ∷ w) e = absurd (omega arith)
+  pub other-ahead : returned (Option·map held (number w)) ≡ None → (held_of (drop i ws) ≡ none) × (front_of (drop i ws) ≡ [])
+  other-ahead e = rw ahead (other-before (number w) (numbers_of (drop (i + 1) ws)) (front_of (drop (i + 1) ws)) e)
 
-pub number-lone : (w : List ℕ) → length w ≡ 1 → get_or w 0 0 ≡ 45 → number w ≡ none
-number-lone [] n e = refl
-number-lone (b ∷ []) n e = rw e
-number-lone (b ∷ d ∷ w) n e = absurd (omega arith)
-
-pub number-minus : (w : List ℕ) → 1 < length w → get_or w 0 0 ≡ 45 → number w ≡ minus (value_from 0 (drop 1 w))
-number-minus [] n e = absurd (omega arith)
-number-minus (b ∷ []) n e = absurd (omega arith)
-number-minus (b ∷ d ∷ w) n e = rw e
-
-pub number-plus : (w : List ℕ) → 0 < length w → (get_or w 0 0 ≡ 45 → ⊥) → number w ≡ plus (value_from 0 (drop 0 w))
-number-plus [] n e = absurd (omega arith)
-number-plus (b ∷ w) n e = rw (ne_eqb b 45 e)
-
-pub held-minus : (o : Option ℕ) (v : ℕ) → digits_word o ≡ Value v → (v ≤ 0x1_0000_0000) × (held_word (minus o) ≡ Value (0x1_0000_0000 - v))
-held-minus none v e = never (cc)
-held-minus (some zero) v e = let h : min 0 0x1_0000_0000 ≡ v = cc in (omega arith, ap Value (omega arith))
-held-minus (some (suc n)) v e = let h : min (suc n) 0x1_0000_0000 ≡ v = cc in (omega arith, ap (λ (x : ℕ). Value (0x1_0000_0000 - x)) h)
-
-pub held-plus : (o : Option ℕ) (v : ℕ) → digits_word o ≡ Value v → (v ≤ 0x1_0000_0000) × (held_word (plus o) ≡ Value (0x1_0000_0000 + v))
-held-plus none v e = never (cc)
-held-plus (some n) v e = let h : min n 0x1_0000_0000 ≡ v = cc in (omega arith, ap (λ (x : ℕ). Value (0x1_0000_0000 + x)) h)
-
--- with either sign
-pub held-other : (sign : ℕ → ℤ) (o : Option ℕ) → digits_word o ≡ Other → held_word (Option·map sign o) ≡ Other
-held-other sign none e = refl
-held-other sign (some n) e = never (cc)
-
-pub held-bound : (o : Option ℤ) (x : ℕ) → held_word o ≡ Value x → x ≤ 0x2_0000_0000
-held-bound none x e = never (cc)
-held-bound (some (pos n)) x e = let h : 0x1_0000_0000 + min n 0x1_0000_0000 ≡ x = cc in omega arith
-held-bound (some (negsuc n)) x e = let h : 0x1_0000_0000 - min (suc n) 0x1_0000_0000 ≡ x = cc in omega arith
-
--- ---- what stands first in a text
-
-pub first-none : (t : List ℕ) → words t ≡ [] → held_in t ≡ some []
-unfolding held_in
-first-none t e = rw e
-
-value_before : (o : Option ℤ) (x : ℕ) (zs : Option (List ℤ)) → held_word o ≡ Value x → Option·map (map held) (before o zs) ≡ onto (x ∷ []) (Option·map (map held) zs)
-value_before none x zs e = never (cc)
-value_before (some z) x none e = refl
-value_before (some z) x (some zs) e = let h : held z ≡ x = cc in ap (λ (y : ℕ). some (y ∷ map held zs)) h
-
-other-before : (o : Option ℤ) (zs : Option (List ℤ)) → held_word o ≡ Other → Option·map (map held) (before o zs) ≡ none
-other-before none zs e = refl
-other-before (some z) zs e = never (cc)
-
-pub first-value : (t w u : List ℕ) (x : ℕ) → words t ≡ w ∷ words u → held_word (number w) ≡ Value x → held_in t ≡ onto (x ∷ []) (held_in u)
-unfolding held_in
-first-value t w u x e v = rw e (value_before (number w) x (numbers u) v)
-
-pub first-other : (t w u : List ℕ) → words t ≡ w ∷ words u → held_word (number w) ≡ Other → held_in t ≡ none
-unfolding held_in
-first-other t w u e v = rw e (other-before (number w) (numbers u) v)
-
--- ---- the numbers at its front
-
-pub front-none : (t : List ℕ) → words t ≡ [] → front t ≡ []
-unfolding front
-front-none t e = rw e
-
-value-front : (o : Option ℤ) (x : ℕ) (l : List ℕ) → held_word o ≡ Value x → at_front o l ≡ x ∷ l
-value-front none x l e = never (cc)
-value-front (some z) x l e = let h : held z ≡ x = cc in ap (λ (y : ℕ). y ∷ l) h
-
-other-front : (o : Option ℤ) (l : List ℕ) → held_word o ≡ Other → at_front o l ≡ []
-other-front none l e = refl
-other-front (some z) l e = never (cc)
-
-pub front-value : (t w u : List ℕ) (x : ℕ) → words t ≡ w ∷ words u → held_word (number w) ≡ Value x → front t ≡ x ∷ front u
-unfolding front
-front-value t w u x e v = rw e (value-front (number w) x (front_of (words u)) v)
-
-pub front-other : (t w u : List ℕ) → words t ≡ w ∷ words u → held_word (number w) ≡ Other → front t ≡ []
-unfolding front
-front-other t w u e v = rw e (other-front (number w) (front_of (words u)) v)
+pub none-ahead : (ws : List (List ℕ)) (i : ℕ) → length ws ≤ i → (held_of (drop i ws) ≡ some []) × (front_of (drop i ws) ≡ [])
+none-ahead ws i h = rw (drop_of_length-le ws h) (refl, refl)
 
 -- ---- reading all: those read stand in `out`, and the others are ahead
-
-pub onto-nil : (o : Option (List ℕ)) → o ≡ onto [] o
-onto-nil none = refl
-onto-nil (some l) = refl
 
 onto-onto : (a b : List ℕ) (o : Option (List ℕ)) → onto a (onto b o) ≡ onto (a ++ b) o
 onto-onto a b none = refl

@@ -2,16 +2,16 @@
 use Rattle.std.specs.Prelude.{◌≡◌, ◌&&◌, ◌∷◌, ◌++◌, ◌+◌, ◌*◌, ◌-◌, ◌≤◌, ◌<◌}
 use Rattle.numbers.specs.Kit.{Bool, cond, List, [], map, Option, none, some, Option·map, ℕ, suc, min, leb}
 use Rattle.numbers.specs.Kit.{ltb, length, take, drop, ℤ, pos, negsuc}
-use Rattle.product_text.specs.declared.Count.{Count}
-use Rattle.product_text.specs.declared.Count.TheVariants.{All, Many}
-use Rattle.product_text.specs.declared.Parsed.{Parsed}
-use Rattle.product_text.specs.declared.Parsed.TheVariants.{Posed, Refused}
-use Rattle.product_text.specs.declared.Word.{Word}
-use Rattle.product_text.specs.declared.Word.TheVariants.{Value, Other}
-use Rattle.product_text.specs.declared.Token.{Token}
-use Rattle.product_text.specs.declared.Token.TheVariants.{Number, End, Bad}
+use Rattle.std.specs.Prelude as code
+use Rattle.std.specs.Prelude.{None, Some}
+use Rattle.product_memory.specs.declared.Product.{Product}
 use Rattle.product_text.specs.Text.{words, number, numbers}
 use Rattle.product_text.specs.Problem.{Problem}
+
+-- an Option as the code returns it
+abbrev pub returned : {X : Type 0} → Option X → code.Option X
+returned none = None
+returned (some x) = Some x
 
 -- ---- numbers as the code holds them
 
@@ -41,42 +41,18 @@ front t = front_of (words t)
 abbrev pub put_front : List ℕ → List ℕ → List ℕ
 put_front l out = take (length out) l ++ drop (length l) out
 
--- the digits of a word: a number from 0 up, but no more than 2^32
-abbrev pub digits_word : Option ℕ → Word
-digits_word none = Other
-digits_word (some v) = Value (min v 0x1_0000_0000)
-
--- a word
-abbrev pub held_word : Option ℤ → Word
-held_word none = Other
-held_word (some z) = Value (held z)
+-- a number from 0 up, but no more than 2^32
+abbrev pub kept : Option ℕ → Option ℕ
+kept o = Option·map (λ n. min n 0x1_0000_0000) o
 
 -- numbers before those of a text
 abbrev pub onto : List ℕ → Option (List ℕ) → Option (List ℕ)
 onto l ls = Option·map (λ t. l ++ t) ls
 
--- what a token says of the text s from its start on
-abbrev pub ahead : List ℕ → Token → Option (List ℕ)
-ahead s End = some []
-ahead s Bad = none
-ahead s (Number x next) = onto (x ∷ []) (held_in (drop next s))
-
--- and of the numbers at its front
-abbrev pub front_ahead : List ℕ → Token → List ℕ
-front_ahead s End = []
-front_ahead s Bad = []
-front_ahead s (Number x next) = x ∷ front (drop next s)
-
--- a number lies after `at`, within the text
-abbrev pub onward : List ℕ → ℕ → Token → Type 0
-onward s at End = Unit
-onward s at Bad = Unit
-onward s at (Number x next) = (at < next) × (next ≤ length s) × (x ≤ 0x2_0000_0000)
-
 -- all numbers stand at the front of out; or there are none, or more than out has room for
-abbrev pub counted : Option (List ℕ) → List ℕ → Count → Type 0
-counted ls out (All n) = (n ≤ length out) × (ls ≡ some (take n out))
-counted ls out Many = ((l : List ℕ) → ls ≡ some l → length out < length l)
+abbrev pub counted : Option (List ℕ) → List ℕ → code.Option ℕ → Type 0
+counted ls out (Some n) = (n ≤ length out) × (ls ≡ some (take n out))
+counted ls out None = ((l : List ℕ) → ls ≡ some l → length out < length l)
 
 -- the number from 0 up that is held as x, and a large one where that is below 0
 abbrev pub size_held : ℕ → ℕ
@@ -88,9 +64,13 @@ inside h x = leb (0x1_0000_0000 - h) x && ltb x (0x1_0000_0000 + h)
 
 -- ---- a problem as the code returns it
 
-abbrev pub parsed_as : Option Problem → Parsed
-parsed_as none = Refused
-parsed_as (some p) = Posed p.sew p.factor p.m p.k p.n
+-- SEW, f, m, k and n of a problem
+abbrev pub sizes_of : Problem → List ℕ
+sizes_of p = p.sew ∷ p.factor ∷ p.m ∷ p.k ∷ p.n ∷ []
+
+-- and as the code returns them
+abbrev pub sizes : Product → List ℕ
+sizes p = p.sew ∷ p.factor ∷ p.m ∷ p.k ∷ p.n ∷ []
 
 -- what reading a text leaves in a buffer
 abbrev pub read_into : List ℕ → List ℕ → List ℕ

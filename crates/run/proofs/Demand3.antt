@@ -1,13 +1,13 @@
 -- Demand 3, proved: one invariant over the place, the state and the memory, which every turn keeps.
 use Rattle.numbers.proofs.Kit.{◌≡◌, refl, sym, ap, ◌∙◌, subst, ◌⊎◌, inl, inr, Bool, true, false, cond, List, [], ◌∷◌, map, Option, none, some, ℕ, zero, suc}
 use Rattle.numbers.proofs.Kit.{◌+◌, ◌*◌, ◌-◌, ◌≤◌, ◌<◌, min, mul-le-mul_right, mul-pos, arith, leb, length, get_or, drop, drop_of_length-le, drop-cons, pos}
-use Rattle.numbers.proofs.Kit.{leb-true}
+use Rattle.numbers.proofs.Kit.{leb-true, Err}
 use Rattle.numbers.specs.Blocks.{Choice, EachGrants}
 use Rattle.numbers.proofs.BlockLaws.{le-or-lt}
-use Rattle.machine.specs.declared.Answer.TheVariants.{Done, BadArguments, OutsideMemory, Overlap}
+use Rattle.machine.specs.declared.Refusal.TheVariants.{BadArguments, OutsideMemory, Overlap}
 use Rattle.machine.proofs.TestLaws.{every-each}
 use Rattle.machine.specs.declared.Reply.{Reply}
-use Rattle.machine.specs.Answers.{reply, number, done, verdict, ◌otherwise◌}
+use Rattle.machine.specs.Answers.{reply, number, done, verdict, ◌otherwise◌, Done}
 use Rattle.machine.proofs.CheckLaws.{Passed, passed, no-refusal}
 use Rattle.machine.specs.Geometry.{Range, sealed, Parameters, parameters, permitted, State, state_of}
 use Rattle.machine.specs.Setting.{chosen}
@@ -361,11 +361,11 @@ module _ (grant : Choice) (P : Plan) (B₀ : Bench) (R : Ready grant P B₀) whe
   is-done t l = subst (λ (r : Running). (turn grant r).answer ≡ reply Done) (sym (stays t))
       (elim (advance (place_after (S grant P B₀) t) (after t).bench (holding t)).1 [ inl e ↦ absurd (not_end t l e) | inr e ↦ e ])
 
-  ended : (t : ℕ) → steps (S grant P B₀) ≤ t → turn grant (after t) ≡ record { answer = reply BadArguments; handed = none; after = after t }
+  ended : (t : ℕ) → steps (S grant P B₀) ≤ t → turn grant (after t) ≡ record { answer = reply (Err BadArguments); handed = none; after = after t }
   ended t l =
       let e : after t ≡ at grant P B₀ AtEnd (after t).bench = stays t ∙ ap (λ (p : Place). at grant P B₀ p (after t).bench) (at-end t l) in
       let h : Holds grant P B₀ AtEnd (after t).bench = subst (λ (p : Place). Holds grant P B₀ p (after t).bench) (at-end t l) (holding t) in
-      subst (λ (r : Running). turn grant r ≡ record { answer = reply BadArguments; handed = none; after = r }) (sym e)
+      subst (λ (r : Running). turn grant r ≡ record { answer = reply (Err BadArguments); handed = none; after = r }) (sym e)
       (ap (turn_with grant (at grant P B₀ AtEnd (after t).bench)) (hands AtEnd (after t).bench h))
 
   asks-no-more : (t : ℕ) → steps (S grant P B₀) ≤ t → Asks (ask grant (after t).run) 8 none (after t).run

@@ -1,15 +1,15 @@
 -- Refusals of a run: a turn that is refused changes nothing, and the run of a refused start hands out nothing.
 use Rattle.numbers.proofs.Kit.{◌≡◌, refl, sym, ap, ap₂, ◌∙◌, subst, Bool, true, false, cond, Option, none, some, ℕ, zero, suc, ◌+◌, add-zero, eqb, eq-eqb}
-use Rattle.numbers.proofs.Kit.{ne_eqb}
+use Rattle.numbers.proofs.Kit.{ne_eqb, Err}
 use Rattle.numbers.specs.Blocks.{Choice}
-use Rattle.machine.specs.declared.Answer.TheVariants.{Done, BadArguments}
+use Rattle.machine.specs.declared.Refusal.TheVariants.{BadArguments}
 use Rattle.machine.specs.declared.Reply.{Reply}
-use Rattle.machine.specs.Answers.{reply, verdict, done}
+use Rattle.machine.specs.Answers.{reply, verdict, done, Done}
 use Rattle.machine.specs.Geometry.{Bench, permitted}
 use Rattle.machine.specs.Step.{Outcome, step_by}
 use Rattle.machine.proofs.TestLaws.{false-true}
 use Rattle.machine.proofs.CodeLaws.{only-done}
-use Rattle.machine.proofs.Refusal.{refusal-changes-nothing}
+use Rattle.machine.proofs.Refused.{refusal-changes-nothing}
 use Rattle.run.specs.declared.Plan.{Plan}
 use Rattle.run.specs.declared.Run.{Run}
 use Rattle.run.specs.declared.Handed.{Handed}
@@ -72,7 +72,7 @@ module _ (grant : Choice) (P : Plan) (B : Bench) where
   tells_none = refl
 
   abbrev refused : Running → Turn
-  refused r = record { answer = reply BadArguments; handed = none; after = r }
+  refused r = record { answer = reply (Err BadArguments); handed = none; after = r }
 
   no-turn : turn grant nothing ≡ refused nothing
   no-turn = ap (turn_with grant nothing) hands_none

@@ -2,9 +2,8 @@
 use Rattle.std.specs.Prelude.{◌∷◌}
 use Rattle.numbers.specs.Kit.{cond, List, [], Option, none, ℕ}
 use Rattle.numbers.specs.Blocks.{Choice}
-use Rattle.machine.specs.declared.Answer.TheVariants.{Done}
 use Rattle.machine.specs.declared.Reply.{Reply}
-use Rattle.machine.specs.Answers.{reply, done}
+use Rattle.machine.specs.Answers.{reply, done, Done}
 use Rattle.machine.specs.Geometry.{Bench, bench_of}
 use Rattle.machine.specs.Vectors.{Vectors, vectors_of}
 use Rattle.machine.specs.Sealing.{SealOutcome, add_seal}

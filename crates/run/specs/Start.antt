@@ -1,19 +1,19 @@
 -- The start of a run: its checks in the order 8, 6, 9.
 use Rattle.std.specs.Prelude.{◌∷◌, ◌+◌, ◌*◌}
-use Rattle.numbers.specs.Kit.{Bool, cond, not, List, [], ℕ, leb, eqb, length}
+use Rattle.numbers.specs.Kit.{Result, Ok, Err, Bool, cond, not, List, [], ℕ, leb, eqb, length}
 use Rattle.numbers.specs.Blocks.{Choice}
 use Rattle.machine.specs.declared.Machine.{Machine}
-use Rattle.machine.specs.declared.Answer.TheVariants.{BadArguments, OutsideMemory, Overlap}
+use Rattle.machine.specs.declared.Refusal.{Refusal}
+use Rattle.machine.specs.declared.Refusal.TheVariants.{BadArguments, OutsideMemory, Overlap}
 use Rattle.machine.specs.Tests.{all, every, is_in, within}
 use Rattle.machine.specs.declared.Reply.{Reply}
-use Rattle.machine.specs.Answers.{reply, Check, ◌otherwise◌, verdict, is_done}
+use Rattle.machine.specs.Answers.{Answer, Done, reply, Check, ◌otherwise◌, verdict, is_done}
 use Rattle.machine.specs.Geometry.{sealed}
 use Rattle.machine.specs.Memory.{inside, distinct, rows_miss}
 use Rattle.machine.specs.Geometry.{Bench}
 use Rattle.machine.specs.Faults.{sound_bench}
 use Rattle.run.specs.declared.Plan.{Plan}
 use Rattle.run.specs.declared.Run.{Run}
-use Rattle.run.specs.declared.RunStarted.{RunStarted}
 use Rattle.run.specs.declared.Place.TheVariants.{AtType, AtEnd}
 use Rattle.run.specs.Plan.{narrow, wide, a_at, b_at, c_at, a_rows, a_columns}
 
@@ -75,6 +75,15 @@ start_run grant P B = record {
   run = cond (is_done (verdict (run_start_checks grant P B))) (fresh_run B.machine P) (no_run P);
   bench = B;
 }
+
+-- a start's answer, and the run; one that hands out nothing where it is refused
+pub record RunStarted : Type 0 where
+  pub answer : Answer
+  pub run : Run
+
+abbrev pub run_started : Plan → Result Run Refusal → RunStarted
+run_started P (Ok R) = record { answer = Done; run = R }
+run_started P (Err r) = record { answer = Err r; run = no_run P }
 
 -- what the function `start` returned, and the bench that it was lent
 abbrev pub run_started_as : RunStarted → Bench → RunStart

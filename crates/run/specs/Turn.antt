@@ -1,9 +1,11 @@
 -- A turn: a step is asked for and, if one is handed out, carried out with the run's own scalars.
 use Rattle.std.specs.Prelude.{◌∷◌, ◌+◌}
-use Rattle.numbers.specs.Kit.{Bool, true, cond, List, [], Option, none, some, Option·getD, ℕ, zero, suc}
-use Rattle.machine.specs.declared.Answer.TheVariants.{Done, BadArguments}
+use Rattle.numbers.specs.Kit.{Bool, true, cond, List, [], Option, none, some, Option·getD, ℕ, zero, suc, Result, Ok, Err}
+use Rattle.machine.specs.declared.Machine.{Machine}
+use Rattle.machine.specs.declared.Refusal.{Refusal}
+use Rattle.machine.specs.declared.Refusal.TheVariants.{BadArguments}
 use Rattle.machine.specs.declared.Reply.{Reply}
-use Rattle.machine.specs.Answers.{reply, done}
+use Rattle.machine.specs.Answers.{reply, done, Done}
 use Rattle.numbers.specs.Blocks.{Choice, chunks}
 use Rattle.machine.specs.Tests.{every, is_in}
 use Rattle.machine.specs.Geometry.{Parameters, parameters_of, permitted}
@@ -94,11 +96,11 @@ pub record Ask : Type 0 where
 -- "Steps are handed out one at a time .. asking past the last gives 8."
 abbrev pub ask : Choice → Run → Ask
 ask grant R = elim (word_handed_out grant R) [
-  | none ↦ record { answer = reply BadArguments; handed = none; run = R }
+  | none ↦ record { answer = reply (Err BadArguments); handed = none; run = R }
   | some o ↦ record { answer = reply Done; handed = some (handed_for R.plan o); run = moved grant R }
 ]
 
--- what the function `next` returns: the answer, the step or all zeros where there is none, and the run
+-- what the function `next`, asked of run R, returns: the answer, the step or all zeros where there is none, and the run
 pub record AskOutcome : Type 0 where
   pub answer : Reply
   pub handed : Handed
@@ -107,8 +109,9 @@ pub record AskOutcome : Type 0 where
 abbrev pub asked : Ask → AskOutcome
 asked a = record { answer = a.answer; handed = Option·getD a.handed (plain 0); run = a.run }
 
-abbrev pub asked_as : Asked → AskOutcome
-asked_as r = record { answer = reply r.answer; handed = r.handed; run = r.run }
+abbrev pub asked_as : Run → Result Asked Refusal → AskOutcome
+asked_as R (Ok a) = record { answer = reply Done; handed = a.handed; run = a.run }
+asked_as R (Err r) = record { answer = reply (Err r); handed = plain 0; run = R }
 
 -- ---- a turn
 
@@ -146,7 +149,7 @@ abbrev pub answered_done : Choice → Running → ℕ → ℕ
 answered_done grant r zero = 0
 answered_done grant r (suc t) = answered_done grant r t + cond (done (turn grant (after_turns grant r t)).answer) 1 0
 
--- ---- what the functions `turn` and `turns` return and leave
+-- ---- what the functions `turn` and `turns`, of run R and machine m, return and leave
 
 pub record TurnOutcome : Type 0 where
   pub answer : Reply
@@ -155,8 +158,9 @@ pub record TurnOutcome : Type 0 where
 abbrev pub turn_outcome : Choice → Running → TurnOutcome
 turn_outcome grant r = record { answer = (turn grant r).answer; after = (turn grant r).after }
 
-abbrev pub turned_as : Turned → List Range → (registers marks memory : List ℕ) → TurnOutcome
-turned_as r seals registers marks memory = record { answer = reply r.answer; after = running r.run (bench_of r.machine seals registers marks memory) }
+abbrev pub turned_as : Run → Machine → Result Turned Refusal → List Range → (registers marks memory : List ℕ) → TurnOutcome
+turned_as R m (Ok t) seals registers marks memory = record { answer = reply Done; after = running t.run (bench_of t.machine seals registers marks memory) }
+turned_as R m (Err r) seals registers marks memory = record { answer = reply (Err r); after = running R (bench_of m seals registers marks memory) }
 
 pub record TurnsOutcome : Type 0 where
   pub count : ℕ

@@ -1,9 +1,11 @@
 -- A whole product run: a start, and as many turns as there are steps; and what a customer is told of it.
 use Rattle.std.specs.Prelude.{◌≡◌, ◌<◌}
-use Rattle.numbers.specs.Kit.{List, ℕ}
+use Rattle.numbers.specs.Kit.{Result, Ok, Err, List, ℕ}
 use Rattle.numbers.specs.Blocks.{Choice}
+use Rattle.machine.specs.declared.Machine.{Machine}
+use Rattle.machine.specs.declared.Refusal.{Refusal}
 use Rattle.machine.specs.declared.Reply.{Reply}
-use Rattle.machine.specs.Answers.{reply}
+use Rattle.machine.specs.Answers.{Done, reply}
 use Rattle.machine.specs.Geometry.{Range, Bench, bench_of}
 use Rattle.machine.specs.Setting.{chosen}
 use Rattle.machine.specs.Operation.{element}
@@ -28,9 +30,10 @@ whole grant P B = record {
   bench = (turns grant (started_run grant P B) (steps (shape (job_of grant P B)))).after.bench;
 }
 
--- what the function `whole` returned and left
-abbrev pub finished_as : Finished → List Range → (registers marks memory : List ℕ) → WholeOutcome
-finished_as r seals registers marks memory = record { answer = reply r.answer; count = r.count; bench = bench_of r.machine seals registers marks memory }
+-- what the function `whole`, of machine m, returned and left
+abbrev pub finished_as : Machine → Result Finished Refusal → List Range → (registers marks memory : List ℕ) → WholeOutcome
+finished_as m (Ok f) seals registers marks memory = record { answer = reply Done; count = f.count; bench = bench_of f.machine seals registers marks memory }
+finished_as m (Err r) seals registers marks memory = record { answer = reply (Err r); count = 0; bench = bench_of m seals registers marks memory }
 
 -- The customer's sentence, of a plan, the bench at entry, and what came back
 pub record Delivers (P : Plan) (B : Bench) (o : WholeOutcome) : Type 0 where

@@ -1,10 +1,9 @@
 -- The word at each place is the instruction that code carries out there.
-use Rattle.numbers.proofs.Kit.{◌≡◌, refl, sym, ap, ap₂, ◌∙◌, subst, Bool, true, false, cond, not, List, [], ◌∷◌, ℕ, ◌+◌, ◌*◌, ◌^◌, ◌<◌, leb, pos}
+use Rattle.numbers.proofs.Kit.{◌≡◌, refl, sym, ap, ap₂, ◌∙◌, subst, Bool, true, false, cond, not, List, [], ◌∷◌, ℕ, ◌+◌, ◌*◌, ◌^◌, ◌<◌, leb, pos, Err}
 use Rattle.numbers.specs.Reduce.{reduce}
 use Rattle.machine.specs.declared.Machine.{Machine}
-use Rattle.machine.specs.declared.Answer.{Answer}
-use Rattle.machine.specs.declared.Answer.TheVariants.{Done, IllegalType}
-use Rattle.machine.specs.declared.Stepped.{Stepped}
+use Rattle.machine.specs.declared.Refusal.TheVariants.{IllegalType}
+use Rattle.machine.specs.Step.{Stepped}
 use Rattle.machine.specs.declared.Dimension.{Dimension}
 use Rattle.machine.specs.declared.Factor.{Factor}
 use Rattle.machine.specs.declared.Factor.TheVariants.{Single, Double, Quadruple}
@@ -13,7 +12,7 @@ use Rattle.machine.specs.declared.Matrix.TheVariants.{MatrixA, MatrixB, MatrixC}
 use Rattle.machine.specs.declared.Instruction.{Instruction}
 use Rattle.machine.specs.declared.Instruction.TheVariants.{SetTypeImmediate, SetTileImmediate, Load, Store, Multiply, ScaleImmediate, FloatMultiply}
 use Rattle.machine.specs.declared.Reply.{Reply}
-use Rattle.machine.specs.Answers.{reply, verdict, is_done, ◌otherwise◌}
+use Rattle.machine.specs.Answers.{reply, verdict, is_done, ◌otherwise◌, Answer, Done}
 use Rattle.numbers.specs.Bounds.{most_elen}
 use Rattle.machine.specs.Geometry.{Range, sealed, Bench, bench_of, state_of}
 use Rattle.machine.specs.Setting.{chosen, new_type, mill}
@@ -97,7 +96,7 @@ pub size-answers : (m : Machine) (d : Dimension) (a : ℕ) → verdict (typed (s
 size-answers m d a = go (mill m.mtype) (granted m d a)
   where
     go : (t : Bool) (g : ℕ) → verdict ((not t otherwise IllegalType) ∷ [])
-        ≡ (cond {A = Stepped} t (record { answer = IllegalType; machine = m }) (record { answer = Done; machine = with_size m d g })).answer
+        ≡ (cond {A = Stepped} t (record { answer = (Err IllegalType); machine = m }) (record { answer = Done; machine = with_size m d g })).answer
     go true g = refl
     go false g = refl
 

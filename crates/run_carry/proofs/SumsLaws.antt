@@ -1,16 +1,15 @@
 -- Steps over k: after two loads that are answered 0 the multiply is too, where its widths and the marks of acc0 were found right before.
-use Rattle.numbers.proofs.Kit.{◌≡◌, refl, sym, ap, ◌∙◌, subst, Bool, true, false, cond, not, List, [], ◌∷◌, ℕ, ◌*◌, leb}
+use Rattle.numbers.proofs.Kit.{◌≡◌, refl, sym, ap, ◌∙◌, subst, Bool, true, false, cond, not, List, [], ◌∷◌, ℕ, ◌*◌, leb, Err}
 use Rattle.numbers.specs.Bounds.{most_elen}
 use Rattle.numbers.specs.Tile.{mark_tile}
 use Rattle.machine.specs.declared.Machine.{Machine}
-use Rattle.machine.specs.declared.Answer.{Answer}
-use Rattle.machine.specs.declared.Answer.TheVariants.{Done, IllegalType}
-use Rattle.machine.specs.declared.Stepped.{Stepped}
+use Rattle.machine.specs.declared.Refusal.TheVariants.{IllegalType}
+use Rattle.machine.specs.Step.{Stepped}
 use Rattle.machine.specs.declared.Dimension.TheVariants.{DimensionK}
 use Rattle.machine.specs.declared.Factor.{Factor}
 use Rattle.machine.specs.declared.Form.TheVariants.{Plain}
 use Rattle.machine.specs.declared.Matrix.TheVariants.{MatrixA, MatrixB}
-use Rattle.machine.specs.Answers.{reply, verdict, done, is_done}
+use Rattle.machine.specs.Answers.{reply, verdict, done, is_done, Answer, Done}
 use Rattle.machine.specs.Geometry.{Range, State, bench_of, state_of, register_at, acc_at}
 use Rattle.machine.specs.Setting.{mill, sew}
 use Rattle.machine.specs.Refusals.{marked}
@@ -46,7 +45,7 @@ module _ (m : Machine) (marks : List ℕ) (a : ℕ) (m' : Machine) (em : m' ≡ 
   steady-sized P h = subst (λ (n : Machine). Steady P n marks) (sym (em ∙ sized-is m a h.typed)) (record { typed = h.typed; wide = h.wide; written = h.written })
 
   abbrev stepped : Bool → Stepped
-  stepped t = cond t (record { answer = IllegalType; machine = m }) (record { answer = Done; machine = with_size m DimensionK (granted m DimensionK a) })
+  stepped t = cond t (record { answer = (Err IllegalType); machine = m }) (record { answer = Done; machine = with_size m DimensionK (granted m DimensionK a) })
 
   pub ready-marks : (regs : List ℕ) → sound m regs marks ≡ true → MarksReady m' marks
   ready-marks regs s = subst (λ (n : Machine). MarksReady n marks) (sym em) (go (mill m.mtype))

@@ -1,7 +1,7 @@
 -- What the contracts of inner functions name; a reader of the demand need not read it.
 use Rattle.std.specs.Prelude.{◌≡◌, ◌*◌}
-use Rattle.numbers.specs.Kit.{true, false, List, [], Option, none, some, ℕ}
-use Rattle.machine.specs.declared.Answer.TheVariants.{BadArguments}
+use Rattle.numbers.specs.Kit.{true, false, List, [], Option, none, some, ℕ, Err}
+use Rattle.machine.specs.declared.Refusal.TheVariants.{BadArguments}
 use Rattle.machine.specs.declared.Machine.{Machine}
 use Rattle.machine.specs.declared.Reply.{Reply}
 use Rattle.machine.specs.Answers.{reply, done}
@@ -33,7 +33,7 @@ carried_for P o B = let out : Outcome = step (handed_for P o).word (own (handed_
 
 -- a word, if there is one; past the last, 8
 abbrev pub carried_by : Plan → Option Op → Bench → Carried
-carried_by P none B = record { answer = reply BadArguments; bench = B }
+carried_by P none B = record { answer = reply (Err BadArguments); bench = B }
 carried_by P (some o) B = carried_for P o B
 
 -- the word at the place of a run

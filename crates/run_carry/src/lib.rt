@@ -3,8 +3,7 @@
 
 ghost use Rattle.std.specs.Prelude.{◌≡◌, true, List, [], ◌∷◌, ℕ, ◌*◌, ◌≤◌, ◌<◌};
 ghost use Rattle.numbers.specs.Bounds.{most_elen};
-ghost use Rattle.machine.specs.declared.Answer.TheVariants.{Done};
-ghost use Rattle.machine.specs.Answers.{reply, done, is_done, verdict};
+ghost use Rattle.machine.specs.Answers.{reply, done, is_done, verdict, Done};
 ghost use Rattle.machine.specs.Geometry.{Range, Bench, bench_of, state_of, register_count};
 ghost use Rattle.machine.specs.Faults.{sound, seals_fit};
 ghost use Rattle.unit_ranges.specs.Ranges.{seals_in};
@@ -21,7 +20,7 @@ ghost use Rattle.run_carry.specs.Parts.{carried, carried_for, carried_at, Multip
 ghost use Rattle.run.specs.Start.{planned};
 ghost use Rattle.run.specs.Turn.{sound_run};
 
-use machine::{Answer, Dimension, Factor, Form, Machine, Matrix};
+use machine::{Answer, Dimension, Factor, Form, Machine, Matrix, Refusal};
 use run::{Layout, Place, Plan, Run};
 
 // The output's width, as a plan has it.
@@ -29,13 +28,11 @@ fn plan_factor(plan: Plan) -> Factor
     requires { planned most_elen plan ≡ true }
     ensures { times result ≡ plan.factor }
 {
-    if plan.factor == 4 {
-        return Factor::Quadruple;
+    match plan.factor {
+        4 => Factor::Quadruple,
+        2 => Factor::Double,
+        _ => Factor::Single,
     }
-    if plan.factor == 2 {
-        return Factor::Double;
-    }
-    Factor::Single
 }
 
 // The answer to a tile setting.
@@ -43,9 +40,9 @@ fn size_answer(m: Machine) -> Answer
     ensures { result ≡ verdict (typed (state_of m [] []) ∷ []) }
 {
     if unit_settings::is_mill(m.mtype) {
-        return Answer::IllegalType;
+        return Err(Refusal::IllegalType);
     }
-    Answer::Done
+    Ok(())
 }
 
 // Clears acc0.
@@ -66,8 +63,7 @@ pub fn is_ready(plan: Plan, m: Machine, marks: &[u8]) -> bool
     ensures { result ≡ is_done (verdict (target_checks m marks.now plan.factor 0)) }
 {
     let factor = plan_factor(plan);
-    let answer = unit_checks::written::check_target(m, marks, factor, 0);
-    unit_answers::is_done(answer)
+    unit_checks::written::check_target(m, marks, factor, 0).is_ok()
 }
 
 // Multiplies tr0 and tr1 to acc0, where that is not refused.
@@ -121,8 +117,7 @@ fn load(
     ensures { WritesRegisters m (Operation.load form matrix md (narrow plan) (address_in layout row (column * narrow plan)) layout.stride) registers.old marks.old memory.now result registers.new marks.new }
 {
     let bytes = run_plan::narrow_bytes(plan);
-    let offset = run_plan::small_times(column, bytes);
-    let start = run_plan::start_of(layout.address, layout.stride, row, offset);
+    let start = run_plan::element_address(layout, row, column, bytes);
     unit_execute::transfers::load(
         m,
         registers,
@@ -223,9 +218,8 @@ fn store(
         ≡ carried_for plan (store row column) (bench_of m (seals_in seals.now) registers.now marks.now memory.old) }
 {
     let bytes = run_plan::wide_bytes(plan);
-    let offset = run_plan::small_times(column, bytes);
     let layout = plan.c;
-    let start = run_plan::start_of(layout.address, layout.stride, row, offset);
+    let start = run_plan::element_address(layout, row, column, bytes);
     unit_execute::transfers::store(
         m,
         seals,
@@ -258,9 +252,8 @@ pub fn carry_out(
         carried (reply result) (carried_at run B).bench.machine (seals_in seals.now) registers.new marks.new memory.new ≡ carried_at run B) }
 {
     let plan = run.plan;
-    let place = run.place;
-    match place {
-        Place::AtType => Answer::Done,
+    match run.place {
+        Place::AtType => Ok(()),
         Place::AtM { .. } => size_answer(m),
         Place::AtN { .. } => size_answer(m),
         Place::AtClear { .. } => clear(plan, m, registers, marks),
@@ -271,7 +264,7 @@ pub fn carry_out(
         Place::AtStore { row, column } => store(
             plan, m, seals, registers, marks, memory, row, column,
         ),
-        Place::AtEnd => Answer::BadArguments,
+        Place::AtEnd => Err(Refusal::BadArguments),
     }
 }
 
@@ -282,8 +275,7 @@ pub fn machine_after(run: Run, m: Machine) -> Machine
     ensures { (seals : List Range) (registers marks memory : List ℕ) → sound m registers marks ≡ true → seals_fit seals ≡ true → result ≡ (carried_at run (bench_of m seals registers marks memory)).bench.machine }
 {
     let plan = run.plan;
-    let place = run.place;
-    match place {
+    match run.place {
         Place::AtType => unit_settings::with_type(
             m,
             unit_settings::kept_type(m.elen, run_plan::type_of(plan)),

@@ -2,8 +2,6 @@
 #![tactic(auto)]
 
 ghost use Rattle.std.specs.Prelude.{◌≡◌, true, ◌+◌, ◌*◌, ◌≤◌, ◌<◌};
-ghost use Rattle.std.proofs.Math.Option.{none};
-ghost use Rattle.machine.specs.Answers.{reply};
 ghost use Rattle.machine.specs.Setting.{chosen};
 ghost use Rattle.run.specs.Words.{set_type, clear, multiply, load_a, load_b, store};
 ghost use Rattle.run.specs.Plan.{narrow, msew};
@@ -13,10 +11,9 @@ ghost use Rattle.run.specs.Turn.{sound_run, run_shape, steps_in, ask, asked, ask
 ghost use Rattle.numbers.specs.Blocks.{count};
 ghost use Rattle.numbers.specs.Bounds.{most_elen, most_mlen};
 ghost use Rattle.run_next.specs.Parts.{is_end, handed_of};
-ghost use Rattle.machine.specs.declared.Answer.TheVariants.{BadArguments};
 ghost use Rattle.run.specs.Encoding.{setting_word, memory_word, arithmetic_word, plain, address_in, handed_for};
 
-use machine::Answer;
+use machine::Refusal;
 use run::{Asked, Handed, Layout, Place, Plan, Run};
 
 // ---- the words
@@ -49,7 +46,7 @@ fn plain_step(word: u32) -> Handed
     ensures { result ≡ plain word }
 {
     Handed {
-        word: word,
+        word,
         address: 0,
         stride: 0,
     }
@@ -59,23 +56,20 @@ fn hand_setting(code: u32, immediate: u64) -> Handed
     requires { (code ≤ 6) × (immediate ≤ 1024) }
     ensures { result ≡ plain (setting_word code immediate) }
 {
-    let word = setting_word(code, immediate);
-    plain_step(word)
+    plain_step(setting_word(code, immediate))
 }
 
 fn hand_type(plan: Plan) -> Handed
     ensures { result ≡ handed_for plan set_type }
 {
-    let mtype = run_plan::type_of(plan);
-    hand_setting(0, mtype)
+    hand_setting(0, run_plan::type_of(plan))
 }
 
 fn hand_clear(plan: Plan) -> Handed
     ensures { result ≡ handed_for plan clear }
 {
     let code = run_plan::factor_code(plan.factor);
-    let word = arithmetic_word(16 + code, 0);
-    plain_step(word)
+    plain_step(arithmetic_word(16 + code, 0))
 }
 
 fn hand_multiply(plan: Plan) -> Handed
@@ -86,8 +80,7 @@ fn hand_multiply(plan: Plan) -> Handed
         return plain_step(0x0210_6077);
     }
     let code = run_plan::factor_code(plan.factor);
-    let word = arithmetic_word(code, 1);
-    plain_step(word)
+    plain_step(arithmetic_word(code, 1))
 }
 
 // A load of a register from so many elements into a row of A or B.
@@ -97,14 +90,10 @@ fn hand_load(plan: Plan, code: u32, register: u32, layout: Layout, row: u64, col
     requires row_bound { (row ≤ 1024) × (column ≤ 1024) }
     ensures { result ≡ record { word = memory_word code (msew plan) register; address = address_in layout row (column * narrow plan); stride = layout.stride } }
 {
-    let width = run_plan::width_code(plan);
-    let word = memory_word(code, width, register);
     let bytes = run_plan::narrow_bytes(plan);
-    let offset = run_plan::small_times(column, bytes);
-    let start = run_plan::start_of(layout.address, layout.stride, row, offset);
     Handed {
-        word: word,
-        address: start,
+        word: memory_word(code, run_plan::width_code(plan), register),
+        address: run_plan::element_address(layout, row, column, bytes),
         stride: layout.stride,
     }
 }
@@ -117,8 +106,7 @@ fn hand_load_a(plan: Plan, row: u64, term: u64) -> Handed
     let code = run_plan::load_code(plan);
     let line = run_plan::a_row(plan, row, term);
     let column = run_plan::a_column(plan, row, term);
-    let layout = plan.a;
-    hand_load(plan, code, 0, layout, line, column)
+    hand_load(plan, code, 0, plan.a, line, column)
 }
 
 fn hand_load_b(plan: Plan, term: u64, column: u64) -> Handed
@@ -126,8 +114,7 @@ fn hand_load_b(plan: Plan, term: u64, column: u64) -> Handed
     requires term_bound { (term ≤ 1024) × (column ≤ 1024) }
     ensures { result ≡ handed_for plan (load_b term column) }
 {
-    let layout = plan.b;
-    hand_load(plan, 4, 1, layout, term, column)
+    hand_load(plan, 4, 1, plan.b, term, column)
 }
 
 fn hand_store(plan: Plan, row: u64, column: u64) -> Handed
@@ -135,17 +122,12 @@ fn hand_store(plan: Plan, row: u64, column: u64) -> Handed
     requires row_bound { (row ≤ 1024) × (column ≤ 1024) }
     ensures { result ≡ handed_for plan (store row column) }
 {
-    let width = run_plan::width_code(plan);
-    let code = run_plan::factor_code(plan.factor);
-    let word = memory_word(1, width + code, 0);
+    let width = run_plan::width_code(plan) + run_plan::factor_code(plan.factor);
     let bytes = run_plan::wide_bytes(plan);
-    let offset = run_plan::small_times(column, bytes);
-    let layout = plan.c;
-    let start = run_plan::start_of(layout.address, layout.stride, row, offset);
     Handed {
-        word: word,
-        address: start,
-        stride: layout.stride,
+        word: memory_word(1, width, 0),
+        address: run_plan::element_address(plan.c, row, column, bytes),
+        stride: plan.c.stride,
     }
 }
 
@@ -155,8 +137,7 @@ fn handed_at(run: Run) -> Handed
     ensures { result ≡ handed_of run.plan (word_at (run_shape chosen run) run.place) }
 {
     let plan = run.plan;
-    let place = run.place;
-    match place {
+    match run.place {
         Place::AtType => hand_type(plan),
         Place::AtM { row } => hand_setting(2, plan.m - row),
         Place::AtN { column, .. } => hand_setting(6, plan.n - column),
@@ -175,48 +156,23 @@ fn handed_at(run: Run) -> Handed
 fn is_end(place: Place) -> bool
     ensures { result ≡ is_end place }
 {
-    match place {
-        Place::AtType => false,
-        Place::AtM { .. } => false,
-        Place::AtN { .. } => false,
-        Place::AtClear { .. } => false,
-        Place::AtK { .. } => false,
-        Place::AtA { .. } => false,
-        Place::AtB { .. } => false,
-        Place::AtMultiply { .. } => false,
-        Place::AtStore { .. } => false,
-        Place::AtEnd => true,
-    }
-}
-
-fn refused(run: Run) -> Asked
-    ensures { asked_as result ≡ asked (record { answer = reply BadArguments; handed = none; run = run }) }
-{
-    Asked {
-        answer: Answer::BadArguments,
-        handed: plain_step(0),
-        run: run,
-    }
+    matches!(place, Place::AtEnd)
 }
 
 // The next step of a run, and the run past it; 8 past the last, and of a run that no start can have made.
-pub fn next(run: Run) -> Asked
-    ensures { asked_as result ≡ asked (ask chosen run) }
+pub fn next(run: Run) -> Result<Asked, Refusal>
+    ensures { asked_as run result ≡ asked (ask chosen run) }
 {
     if !run_place::is_sound_run(run) {
-        return refused(run);
+        return Err(Refusal::BadArguments);
     }
-    let place = run.place;
-    if is_end(place) {
-        return refused(run);
+    if is_end(run.place) {
+        return Err(Refusal::BadArguments);
     }
-    let handed = handed_at(run);
-    let after = run_place::moved_run(run);
-    Asked {
-        answer: Answer::Done,
-        handed: handed,
-        run: after,
-    }
+    Ok(Asked {
+        handed: handed_at(run),
+        run: run_place::moved_run(run),
+    })
 }
 
 // ---- the number of steps

@@ -1,7 +1,7 @@
 -- Ranges of bytes that share none: the test on bytes against the test on ends, and the tests of a start as tests on pairs of rows.
 use Rattle.numbers.proofs.Kit.{◌≡◌, refl, sym, ap, ◌∙◌, subst, ◌⊎◌, inl, inr, Bool, true, false, not, ◌||◌, ℕ, zero, ◌+◌, ◌*◌, ◌-◌, ◌/◌, ◌≤◌, ◌<◌}
 use Rattle.numbers.proofs.Kit.{mul-le-mul_right, le-mul_of_pos_right, div-add-mod', mod-lt, arith, leb, eqb, leb-true, eqb-true, eqb-false, leb-false}
-use Rattle.numbers.proofs.Kit.{eq-eqb, ne_eqb, le-leb, lt-leb}
+use Rattle.numbers.proofs.Kit.{eq-eqb, ne_eqb, lt-leb}
 use Rattle.numbers.specs.Tile.{In}
 use Rattle.numbers.proofs.BlockLaws.{le-or-lt}
 use Rattle.machine.specs.Tests.{all, within}
@@ -62,18 +62,9 @@ module _ (p n q o : ℕ) where
                 (or-not (eqb n 0) (eqb o 0 || (leb (p + n) q || leb (q + o) p)) h es) et) eu),
           )
 
-  -- .. in the order of the code
+  -- .. with no byte to miss
   pub free-no-bytes : n ≡ 0 → true ≡ free p n q o
   free-no-bytes e = sym (free-range ∙ rw (eq-eqb n 0 e))
-
-  pub free-no-others : ¬ (n ≡ 0) → o ≡ 0 → true ≡ free p n q o
-  free-no-others h e = sym (free-range ∙ rw (ne_eqb n 0 h, eq-eqb o 0 e))
-
-  pub free-below : ¬ (n ≡ 0) → ¬ (o ≡ 0) → p + n ≤ q → true ≡ free p n q o
-  free-below h g l = sym (free-range ∙ rw (ne_eqb n 0 h, ne_eqb o 0 g, le-leb (p + n) q l))
-
-  pub free-above : ¬ (n ≡ 0) → ¬ (o ≡ 0) → q < p + n → leb (q + o) p ≡ free p n q o
-  free-above h g l = sym (free-range ∙ rw (ne_eqb n 0 h, ne_eqb o 0 g, lt-leb (p + n) q l))
 
 -- ---- a range against rows
 

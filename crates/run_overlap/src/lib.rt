@@ -14,16 +14,7 @@ pub fn ranges_apart(p: usize, n: usize, q: usize, o: usize) -> bool
     requires o_bound { q + o < 2 ^ 64 }
     ensures { result ≡ all n (λ b. not (within q o (p + b))) }
 {
-    if n == 0 {
-        return true;
-    }
-    if o == 0 {
-        return true;
-    }
-    if p + n <= q {
-        return true;
-    }
-    q + o <= p
+    n == 0 || o == 0 || p + n <= q || q + o <= p
 }
 
 // How many steps of the distance gap it takes from a number to get past another.
@@ -105,13 +96,11 @@ pub fn rows_apart(
     if size == 0 {
         return true;
     }
-    let mut k = 0;
-    while k < count {
+    for k in 0..count {
         let at = row_address(other, as_signed(pace), k);
         if !rows_miss(len, base, stride, rows, bytes, at, size) {
             return false;
         }
-        k += 1;
     }
     true
 }

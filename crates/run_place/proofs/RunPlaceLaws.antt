@@ -1,5 +1,5 @@
 -- For code: what the numbers and the place of a sound run say, and the next place.
-use Rattle.numbers.proofs.Kit.{◌≡◌, refl, sym, true, [], ◌∷◌, ℕ, ◌/◌, ◌≤◌, ◌<◌, le-div_iff_mul-le, div-le_self, arith, leb, ltb, eqb-true, ltb-true}
+use Rattle.numbers.proofs.Kit.{◌≡◌, refl, sym, ◌∙◌, Bool, true, false, [], ◌∷◌, ℕ, ◌/◌, ◌≤◌, ◌<◌, le-div_iff_mul-le, div-le_self, arith, leb, ltb, eqb-true, ltb-true}
 use Rattle.numbers.proofs.Kit.{leb-true}
 use Rattle.numbers.specs.Bounds.{most_elen, most_mlen}
 use Rattle.machine.specs.Tests.{every}
@@ -111,6 +111,14 @@ module _ (R : Run) (ok : numbered R ≡ true) where
   place_in (AtMultiply i j s) h = in-mnk i j s h
   place_in (AtStore i j) h = in-mn i j h
   place_in AtEnd h = refl
+
+-- .. so none starts at a place outside them
+pub no_block : (R : Run) → numbered R ≡ true → in_matrices R.plan R.place ≡ false → begins (run_shape chosen R) R.place ≡ false
+no_block R ok out = go (begins (run_shape chosen R) R.place) refl
+  where
+    go : (t : Bool) → begins (run_shape chosen R) R.place ≡ t → t ≡ false
+    go true h = sym (place_in R ok R.place h) ∙ out
+    go false h = refl
 
 module _ (R : Run) (ok : sound_run chosen R ≡ true) where
   tests : Each (permitted R.rlen R.mlen R.elen ∷ is_rule R.rule ∷ planned R.elen R.plan ∷ begins (run_shape chosen R) R.place ∷ [])

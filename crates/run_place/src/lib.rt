@@ -95,10 +95,7 @@ fn starts_product(run: Run, row: u64, column: u64) -> bool
     requires n_value { every (ltb row run.plan.m ∷ ltb column run.plan.n ∷ []) ≡ true }
     ensures { result ≡ every (starts_m (run_shape chosen run) row ∷ starts_n (run_shape chosen run) column ∷ []) }
 {
-    if !starts_rows(run, row) {
-        return false;
-    }
-    starts_columns(run, column)
+    starts_rows(run, row) && starts_columns(run, column)
 }
 
 fn starts_sums(run: Run, row: u64, column: u64, term: u64) -> bool
@@ -106,13 +103,7 @@ fn starts_sums(run: Run, row: u64, column: u64, term: u64) -> bool
     requires k_value { every (ltb row run.plan.m ∷ ltb column run.plan.n ∷ ltb term run.plan.k ∷ []) ≡ true }
     ensures { result ≡ every (starts_m (run_shape chosen run) row ∷ starts_n (run_shape chosen run) column ∷ starts_k (run_shape chosen run) term ∷ []) }
 {
-    if !starts_rows(run, row) {
-        return false;
-    }
-    if !starts_columns(run, column) {
-        return false;
-    }
-    starts_terms(run, term)
+    starts_rows(run, row) && starts_columns(run, column) && starts_terms(run, term)
 }
 
 // Whether blocks start at the place of a run.
@@ -121,43 +112,30 @@ fn is_begun(run: Run) -> bool
     requires place_value { in_matrices run.plan run.place ≡ true }
     ensures { result ≡ begins (run_shape chosen run) run.place }
 {
-    let place = run.place;
-    match place {
+    match run.place {
         Place::AtType => true,
         Place::AtM { row } => starts_rows(run, row),
-        Place::AtN { row, column } => starts_product(run, row, column),
-        Place::AtClear { row, column } => starts_product(run, row, column),
-        Place::AtK { row, column, term } => starts_sums(run, row, column, term),
-        Place::AtA { row, column, term } => starts_sums(run, row, column, term),
-        Place::AtB { row, column, term } => starts_sums(run, row, column, term),
-        Place::AtMultiply { row, column, term } => starts_sums(run, row, column, term),
-        Place::AtStore { row, column } => starts_product(run, row, column),
+        Place::AtN { row, column }
+        | Place::AtClear { row, column }
+        | Place::AtStore { row, column } => starts_product(run, row, column),
+        Place::AtK { row, column, term }
+        | Place::AtA { row, column, term }
+        | Place::AtB { row, column, term }
+        | Place::AtMultiply { row, column, term } => starts_sums(run, row, column, term),
         Place::AtEnd => true,
     }
 }
 
 // Whether the numbers of a run are ones that a run can hold, and its place one that a run comes to.
+#[tactic(auto, unfolding(run::specs::Turn::sound_run, crate::specs::Parts::numbered), using(crate::proofs::RunPlaceLaws::no_block))]
 pub fn is_sound_run(run: Run) -> bool
     ensures { result ≡ sound_run chosen run }
 {
-    let rlen = run.rlen;
-    let mlen = run.mlen;
-    let elen = run.elen;
-    if !unit_start::permitted_lengths(rlen, mlen, elen) {
-        return false;
-    }
-    if !unit_start::is_rule(run.rule) {
-        return false;
-    }
-    let plan = run.plan;
-    if !run_plan::is_planned(elen, plan) {
-        return false;
-    }
-    let place = run.place;
-    if !run_plan::is_placed(plan, place) {
-        return false;
-    }
-    is_begun(run)
+    unit_start::permitted_lengths(run.rlen, run.mlen, run.elen)
+        && unit_start::is_rule(run.rule)
+        && run_plan::is_planned(run.elen, run.plan)
+        && run_plan::is_placed(run.plan, run.place)
+        && is_begun(run)
 }
 
 // ---- the next place
@@ -167,7 +145,7 @@ fn head_rows(run: Run, row: u64) -> Place
     ensures { result ≡ head_m (run_shape chosen run) row }
 {
     if row < run.plan.m {
-        return Place::AtM { row: row };
+        return Place::AtM { row };
     }
     Place::AtEnd
 }
@@ -178,10 +156,7 @@ fn head_columns(run: Run, row: u64, column: u64) -> Place
     ensures { result ≡ head_n (run_shape chosen run) row column }
 {
     if column < run.plan.n {
-        return Place::AtN {
-            row: row,
-            column: column,
-        };
+        return Place::AtN { row, column };
     }
     let most = most_rows(run);
     let end = block_end(run.rule, run.plan.m, row, most);
@@ -192,16 +167,9 @@ fn head_terms(run: Run, row: u64, column: u64, term: u64) -> Place
     ensures { result ≡ head_k (run_shape chosen run) row column term }
 {
     if term < run.plan.k {
-        return Place::AtK {
-            row: row,
-            column: column,
-            term: term,
-        };
+        return Place::AtK { row, column, term };
     }
-    Place::AtStore {
-        row: row,
-        column: column,
-    }
+    Place::AtStore { row, column }
 }
 
 // The place after that of a run.
@@ -209,30 +177,14 @@ pub fn next_place(run: Run) -> Place
     requires { sound_run chosen run ≡ true }
     ensures { result ≡ next (run_shape chosen run) run.place }
 {
-    let place = run.place;
-    match place {
+    match run.place {
         Place::AtType => head_rows(run, 0),
         Place::AtM { row } => head_columns(run, row, 0),
-        Place::AtN { row, column } => Place::AtClear {
-            row: row,
-            column: column,
-        },
+        Place::AtN { row, column } => Place::AtClear { row, column },
         Place::AtClear { row, column } => head_terms(run, row, column, 0),
-        Place::AtK { row, column, term } => Place::AtA {
-            row: row,
-            column: column,
-            term: term,
-        },
-        Place::AtA { row, column, term } => Place::AtB {
-            row: row,
-            column: column,
-            term: term,
-        },
-        Place::AtB { row, column, term } => Place::AtMultiply {
-            row: row,
-            column: column,
-            term: term,
-        },
+        Place::AtK { row, column, term } => Place::AtA { row, column, term },
+        Place::AtA { row, column, term } => Place::AtB { row, column, term },
+        Place::AtB { row, column, term } => Place::AtMultiply { row, column, term },
         Place::AtMultiply { row, column, term } => {
             let most = most_terms(run);
             let end = block_end(run.rule, run.plan.k, term, most);
@@ -251,15 +203,7 @@ pub fn next_place(run: Run) -> Place
 pub fn at_place(run: Run, place: Place) -> Run
     ensures { result ≡ at_place run place }
 {
-    let plan = run.plan;
-    Run {
-        plan: plan,
-        rlen: run.rlen,
-        mlen: run.mlen,
-        rule: run.rule,
-        elen: run.elen,
-        place: place,
-    }
+    Run { place, ..run }
 }
 
 // The run at its next place.
@@ -267,6 +211,5 @@ pub fn moved_run(run: Run) -> Run
     requires { sound_run chosen run ≡ true }
     ensures { result ≡ moved chosen run }
 {
-    let place = next_place(run);
-    at_place(run, place)
+    at_place(run, next_place(run))
 }

@@ -1,6 +1,6 @@
 -- For code: formats, widths and mtype of a plan, where a block starts, and places in the matrices.
-use Rattle.numbers.proofs.Kit.{◌≡◌, refl, sym, ap, ◌∙◌, Bool, true, false, ◌||◌, List, [], ◌∷◌, ℕ, ◌+◌, ◌*◌, ◌/◌, ◌%◌, ◌^◌, ◌≤◌, ◌<◌, mul-le-mul}
-use Rattle.numbers.proofs.Kit.{mul-le-mul_left, div-mul-le_self, mod-eq_of_lt, div-add-mod', arith, leb, ltb, eqb, leb-true, ltb-true, eq-eqb, ne_eqb}
+use Rattle.numbers.proofs.Kit.{◌≡◌, refl, sym, ap, ◌∙◌, true, List, [], ◌∷◌, ℕ, ◌+◌, ◌*◌, ◌/◌, ◌%◌, ◌^◌, ◌≤◌, ◌<◌, mul-le-mul}
+use Rattle.numbers.proofs.Kit.{mul-le-mul_left, div-mul-le_self, mod-eq_of_lt, div-add-mod', arith, leb, ltb, leb-true, ltb-true}
 use Rattle.machine.specs.Tests.{is_in}
 use Rattle.machine.proofs.TestLaws.{every-each, each-every, each_in}
 use Rattle.numbers.specs.Bounds.{most_elen}
@@ -8,7 +8,6 @@ use Rattle.machine.specs.Geometry.{elens}
 use Rattle.run.specs.declared.Layout.{Layout}
 use Rattle.run.specs.declared.Plan.{Plan}
 use Rattle.run.specs.declared.Place.TheVariants.{AtM, AtMultiply, AtStore}
-use Rattle.run.specs.Plan.{msew, type_of}
 use Rattle.run.specs.Encoding.{address_in}
 use Rattle.run.specs.Start.{format, kind_fit, planned}
 use Rattle.run.proofs.WordLaws.{start-wraps, widest-format}
@@ -21,13 +20,6 @@ sews = 8 ∷ 16 ∷ 32 ∷ 64 ∷ []
 
 abbrev pub factors : List ℕ
 factors = 1 ∷ 2 ∷ 4 ∷ []
-
-pub last-factor : (x : ℕ) → eqb x 1 ≡ false → eqb x 2 ≡ false → eqb x 4 ≡ is_in x factors
-last-factor x p q = rw (p, q) (or-false (eqb x 4))
-  where
-    or-false : (t : Bool) → t ≡ t || false
-    or-false true = refl
-    or-false false = refl
 
 pub small_product : (s f : ℕ) → is_in s sews ≡ true → is_in f factors ≡ true → f * s ≤ 256
 small_product s f hs hf =
@@ -54,16 +46,6 @@ widest-plan elen P known h =
     let t = every-each (format elen P.sew P.factor ∷ leb P.m 1024 ∷ leb P.k 1024 ∷ leb P.n 1024 ∷ kind_fit P ∷ []) h in
     each-every (format most_elen P.sew P.factor ∷ leb P.m 1024 ∷ leb P.k 1024 ∷ leb P.n 1024 ∷ kind_fit P ∷ [])
     (widest-format elen P.sew P.factor known t.0, t.1)
-
--- ---- mtype
-
-pub type-eight : (P : Plan) (w : ℕ) → w ≡ msew P → P.factor ≡ 4 → w + 8 ≡ type_of P
-unfolding type_of
-type-eight P w e h = rw (eq-eqb P.factor 4 h) (omega arith)
-
-pub type-plain : (P : Plan) (w : ℕ) → w ≡ msew P → ¬ (P.factor ≡ 4) → w ≡ type_of P
-unfolding type_of
-type-plain P w e h = rw (ne_eqb P.factor 4 h) (omega arith)
 
 -- ---- addresses
 

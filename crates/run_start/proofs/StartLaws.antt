@@ -1,6 +1,6 @@
 -- For the start of a run: what a plan's numbers bound, and what its tests and checks decide, one after another.
 use Rattle.numbers.proofs.Kit.{◌≡◌, ap, ap₂, ◌∙◌, Bool, true, false, cond, List, [], ◌∷◌, ℕ, ◌*◌, ◌/◌, ◌≤◌, mul-le-mul, arith, leb, length, leb-true}
-use Rattle.machine.specs.declared.Answer.TheVariants.{BadArguments, OutsideMemory, Overlap}
+use Rattle.machine.specs.declared.Refusal.TheVariants.{BadArguments, OutsideMemory, Overlap}
 use Rattle.machine.specs.Answers.{reply, Check, ◌otherwise◌, verdict, is_done}
 use Rattle.machine.specs.Geometry.{Bench, sealed}
 use Rattle.machine.specs.Memory.{inside, distinct, rows_miss}

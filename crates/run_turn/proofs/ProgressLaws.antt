@@ -1,6 +1,6 @@
 -- What turns answer and leave, from what carrying out their words does.
-use Rattle.numbers.proofs.Kit.{◌≡◌, refl, sym, ap, ◌∙◌, subst, Bool, true, false, cond, Option, none, some, ℕ, ◌+◌, arith}
-use Rattle.machine.specs.declared.Answer.TheVariants.{BadArguments}
+use Rattle.numbers.proofs.Kit.{◌≡◌, refl, sym, ap, ◌∙◌, subst, Bool, true, false, cond, Option, none, some, ℕ, ◌+◌, arith, Err}
+use Rattle.machine.specs.declared.Refusal.TheVariants.{BadArguments}
 use Rattle.machine.specs.declared.Reply.{Reply}
 use Rattle.machine.specs.Answers.{reply, done}
 use Rattle.machine.specs.Geometry.{Bench}
@@ -47,7 +47,7 @@ word_kept R B ok k e d =
     sym (ap (λ (r : Running). r.bench) (turn-refused chosen (running R B) f)) ∙ ap (λ (o : TurnOutcome). o.after.bench) (sym h)
 
 -- a run that no start can have made: every turn is refused
-pub turn-unsound : (R : Run) (B : Bench) → sound_run chosen R ≡ false → leaving (reply BadArguments) (running R B) ≡ turn_outcome chosen (running R B)
+pub turn-unsound : (R : Run) (B : Bench) → sound_run chosen R ≡ false → leaving (reply (Err BadArguments)) (running R B) ≡ turn_outcome chosen (running R B)
 turn-unsound R B h =
     ap (λ (t : Bool). let o : Option Op = cond t (word_at (run_shape chosen R) R.place) none in leaving (turn_with chosen (running R B) o).answer (turn_with chosen (running R B) o).after) (sym h)
 

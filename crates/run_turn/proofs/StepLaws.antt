@@ -1,12 +1,11 @@
 -- The four turns of a step over k.
-use Rattle.numbers.proofs.Kit.{◌≡◌, refl, sym, ap, ap₂, ◌∙◌, Bool, true, false, cond, List, ℕ, ◌+◌, ◌-◌, ◌≤◌, ◌<◌, arith, lt-ltb, le-ltb}
+use Rattle.numbers.proofs.Kit.{◌≡◌, refl, sym, ap, ap₂, ◌∙◌, Bool, true, false, cond, List, ℕ, ◌+◌, ◌-◌, ◌≤◌, ◌<◌, arith, lt-ltb, le-ltb, Err}
 use Rattle.numbers.specs.Bounds.{most_elen}
-use Rattle.machine.specs.declared.Answer.{Answer}
-use Rattle.machine.specs.declared.Answer.TheVariants.{Done, IllegalType}
+use Rattle.machine.specs.declared.Refusal.TheVariants.{IllegalType}
 use Rattle.machine.specs.declared.Dimension.TheVariants.{DimensionK}
 use Rattle.machine.specs.declared.Machine.{Machine}
-use Rattle.machine.specs.declared.Stepped.{Stepped}
-use Rattle.machine.specs.Answers.{reply}
+use Rattle.machine.specs.Step.{Stepped}
+use Rattle.machine.specs.Answers.{reply, Answer, Done}
 use Rattle.machine.specs.Geometry.{Range, Bench, bench_of}
 use Rattle.machine.specs.Setting.{chosen, mill}
 use Rattle.machine.specs.Faults.{sound, seals_fit}
@@ -58,7 +57,7 @@ module _ (R : Run) (i j t : ℕ) (ok : sound_run chosen (at_place R (AtK i j t))
       refl (at_place R (AtA i j t)) refl
     where
       done-is : (a : ℕ) → Done ≡ (size_stepped m DimensionK a).answer
-      done-is a = ap (λ (x : Bool). (cond {A = Stepped} x (record { answer = IllegalType; machine = m }) (record { answer = Done; machine = with_size m DimensionK (granted m DimensionK a) })).answer) (sym e)
+      done-is a = ap (λ (x : Bool). (cond {A = Stepped} x (record { answer = (Err IllegalType); machine = m }) (record { answer = Done; machine = with_size m DimensionK (granted m DimensionK a) })).answer) (sym e)
 
 -- ---- the last: the multiply
 

@@ -1,16 +1,17 @@
 -- A turn by the cases of what is asked for; what turns leave once one is refused; states that are not at fault.
 use Rattle.numbers.proofs.Kit.{◌≡◌, refl, sym, ap, ap₂, ◌∙◌, Bool, true, false, cond, Option, none, some, ℕ, zero, suc, ◌+◌, ◌-◌, ◌≤◌, add-zero, add_assoc}
-use Rattle.numbers.proofs.Kit.{arith, add-one}
-use Rattle.machine.specs.declared.Answer.TheVariants.{Done, BadArguments}
+use Rattle.numbers.proofs.Kit.{arith, add-one, Ok, Err}
+use Rattle.machine.specs.declared.Refusal.TheVariants.{BadArguments}
 use Rattle.machine.specs.declared.Reply.{Reply}
-use Rattle.machine.specs.Answers.{reply, done}
+use Rattle.std.specs.Result.{is_err}
+use Rattle.machine.specs.Answers.{Answer, reply, done, is_done, Done}
 use Rattle.machine.specs.Geometry.{Bench, bench_of}
 use Rattle.machine.specs.Setting.{chosen}
 use Rattle.machine.specs.Faults.{sound_bench}
 use Rattle.machine.specs.Step.{Outcome, step}
 use Rattle.machine.proofs.SizeLaws.{chosen-grants}
 use Rattle.machine.proofs.TestLaws.{false-true}
-use Rattle.machine.proofs.CodeLaws.{step-zero}
+use Rattle.machine.proofs.CodeLaws.{refused-not-done, step-zero}
 use Rattle.machine.proofs.NoFault.{step-sound}
 use Rattle.unit_execute.proofs.OutcomeLaws.{step-fault}
 use Rattle.run.specs.declared.Run.{Run}
@@ -21,6 +22,16 @@ use Rattle.run.specs.Turn.{sound_run, word_handed_out, moved, Running, running, 
 use Rattle.run.proofs.HandedLaws.{turn_with}
 use Rattle.run.proofs.RefusalLaws.{turn-refused}
 use Rattle.run_place.proofs.RunPlaceLaws.{moved-sound}
+
+-- ---- an answer, by the test of the code
+
+pub answer-refused : (a : Answer) {t : Bool} → t ≡ is_err a → t ≡ true → is_done a ≡ false
+answer-refused (Ok u) e h = absurd (false-true (sym e ∙ h))
+answer-refused (Err r) e h = refused-not-done r
+
+pub answer-done : (a : Answer) {t : Bool} → t ≡ is_err a → t ≡ false → is_done a ≡ true
+answer-done (Ok u) e h = refl
+answer-done (Err r) e h = absurd (false-true (sym h ∙ e))
 
 -- ---- one turn
 
@@ -57,14 +68,14 @@ turn-kept r t h d =
     ∙ ap (leaving t.answer) (sym k) ∙ h
 
 -- in a state at fault every turn is refused, whether or not a step is handed out
-pub turn-fault : (R : Run) (B : Bench) → sound_bench B ≡ false → leaving (reply BadArguments) (running R B) ≡ turn_outcome chosen (running R B)
+pub turn-fault : (R : Run) (B : Bench) → sound_bench B ≡ false → leaving (reply (Err BadArguments)) (running R B) ≡ turn_outcome chosen (running R B)
 turn-fault R B f = go (word_handed_out chosen R)
   where
     step-refused : (h : Handed) (R' : Run) → let out : Outcome = step h.word (own h) B in
-        leaving (reply BadArguments) (running R B) ≡ leaving out.answer (running (cond (done out.answer) R' R) out.bench)
+        leaving (reply (Err BadArguments)) (running R B) ≡ leaving out.answer (running (cond (done out.answer) R' R) out.bench)
     step-refused h R' = ap (λ (out : Outcome). leaving out.answer (running (cond (done out.answer) R' R) out.bench)) (sym (step-fault h.word (own h) B f))
 
-    go : (o : Option Op) → leaving (reply BadArguments) (running R B) ≡ leaving (turn_with chosen (running R B) o).answer (turn_with chosen (running R B) o).after
+    go : (o : Option Op) → leaving (reply (Err BadArguments)) (running R B) ≡ leaving (turn_with chosen (running R B) o).answer (turn_with chosen (running R B) o).after
     go none = refl
     go (some o) = step-refused (handed_for R.plan o) (moved chosen R)
 

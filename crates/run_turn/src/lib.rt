@@ -10,15 +10,14 @@ ghost use Rattle.run.specs.declared.Place.TheVariants.{AtK};
 ghost use Rattle.run.specs.Turn.{sound_run, running, turn_outcome, turned_as, turns, taken_as};
 ghost use Rattle.run_place.specs.Parts.{at_place};
 ghost use Rattle.run_carry.specs.Parts.{Steady};
-ghost use Rattle.run_turn.specs.Parts.{Taking, Loaded};
+ghost use Rattle.run_turn.specs.Parts.{Taking, Loaded, moved_as};
 
-use machine::{Answer, Dimension, Machine};
+use machine::{Dimension, Machine, Refusal};
 use run::{Place, Run, Taken, Turned};
 
-// What a turn answers, and the run's place and the machine after it.
+// The run's place and the machine after a turn.
 #[derive(Clone, Copy)]
 struct Moved {
-    answer: Answer,
     place: Place,
     machine: Machine,
 }
@@ -39,29 +38,18 @@ fn take_turn(
     registers: &mut [u8],
     marks: &mut [u8],
     memory: &mut [u8],
-) -> Moved
+) -> Result<Moved, Refusal>
     requires marks_value { sound m registers.old marks.old ≡ true }
     requires run_value { sound_run chosen run ≡ true }
     requires seals_value { seals_fit (seals_in seals.now) ≡ true }
-    ensures { turned_as (record { answer = result.answer; run = at_place run result.place; machine = result.machine }) (seals_in seals.now) registers.new marks.new memory.new
+    ensures { moved_as run m result (seals_in seals.now) registers.new marks.new memory.new
         ≡ turn_outcome chosen (running run (bench_of m (seals_in seals.now) registers.old marks.old memory.old)) }
 {
-    let answer = run_carry::carry_out(run, m, seals, registers, marks, memory);
-    if !unit_answers::is_done(answer) {
-        let place = run.place;
-        return Moved {
-            answer: answer,
-            place: place,
-            machine: m,
-        };
-    }
-    let place = run_place::next_place(run);
-    let machine = run_carry::machine_after(run, m);
-    Moved {
-        answer: answer,
-        place: place,
-        machine: machine,
-    }
+    run_carry::carry_out(run, m, seals, registers, marks, memory)?;
+    Ok(Moved {
+        place: run_place::next_place(run),
+        machine: run_carry::machine_after(run, m),
+    })
 }
 
 // The turns that set k and load A and B at this row, column and term, until one is refused; after all three the multiply is not.
@@ -86,37 +74,25 @@ fn take_loads(
     let plan = run.plan;
     let machine = unit_settings::sized(m, Dimension::DimensionK, plan.k - term);
     let first = run_carry::load_a(plan, machine, registers, marks, memory, row, term);
-    if !unit_answers::is_done(first) {
+    if first.is_err() {
         return Progress {
             count: 1,
-            place: Place::AtA {
-                row: row,
-                column: column,
-                term: term,
-            },
-            machine: machine,
+            place: Place::AtA { row, column, term },
+            machine,
         };
     }
     let second = run_carry::load_b(plan, machine, registers, marks, memory, term, column);
-    if !unit_answers::is_done(second) {
+    if second.is_err() {
         return Progress {
             count: 2,
-            place: Place::AtB {
-                row: row,
-                column: column,
-                term: term,
-            },
-            machine: machine,
+            place: Place::AtB { row, column, term },
+            machine,
         };
     }
     Progress {
         count: 3,
-        place: Place::AtMultiply {
-            row: row,
-            column: column,
-            term: term,
-        },
-        machine: machine,
+        place: Place::AtMultiply { row, column, term },
+        machine,
     }
 }
 
@@ -143,40 +119,30 @@ fn take_sums(
     let terms = run_place::most_terms(run);
     let mut term = from;
     let mut machine = m;
-    let mut count = 0;
-    while limit - count >= 4 {
+    for step in 0..limit / 4 {
         let loaded = take_loads(run, machine, registers, marks, memory, row, column, term);
-        let place = loaded.place;
         machine = loaded.machine;
         if loaded.count < 3 {
             return Progress {
-                count: count + loaded.count,
-                place: place,
-                machine: machine,
+                count: 4 * step + loaded.count,
+                place: loaded.place,
+                machine,
             };
         }
         run_carry::multiply_written(plan, machine, registers);
         term = run_place::block_end(run.rule, plan.k, term, terms);
-        count += 4;
         if term >= plan.k {
             return Progress {
-                count: count,
-                place: Place::AtStore {
-                    row: row,
-                    column: column,
-                },
-                machine: machine,
+                count: 4 * step + 4,
+                place: Place::AtStore { row, column },
+                machine,
             };
         }
     }
     Progress {
-        count: count,
-        place: Place::AtK {
-            row: row,
-            column: column,
-            term: term,
-        },
-        machine: machine,
+        count: limit / 4 * 4,
+        place: Place::AtK { row, column, term },
+        machine,
     }
 }
 
@@ -198,7 +164,7 @@ fn sums_from(
 {
     let none = Progress {
         count: 0,
-        place: place,
+        place,
         machine: m,
     };
     if limit < 4 {
@@ -233,17 +199,19 @@ fn take_turns(
     let mut place = run.place;
     let mut machine = m;
     let mut count = 0;
+    // A while: a turn of it takes as many turns as the steps over k that follow allow.
     while count < limit {
         let current = run_place::at_place(run, place);
-        let moved = take_turn(current, machine, seals, registers, marks, memory);
-        let answer = moved.answer;
-        if !unit_answers::is_done(answer) {
-            return Progress {
-                count: count,
-                place: place,
-                machine: machine,
-            };
-        }
+        let moved = match take_turn(current, machine, seals, registers, marks, memory) {
+            Ok(moved) => moved,
+            Err(_) => {
+                return Progress {
+                    count,
+                    place,
+                    machine,
+                };
+            }
+        };
         count += 1;
         let next = moved.place;
         let after = moved.machine;
@@ -253,9 +221,9 @@ fn take_turns(
         count += sums.count;
     }
     Progress {
-        count: count,
-        place: place,
-        machine: machine,
+        count,
+        place,
+        machine,
     }
 }
 
@@ -267,34 +235,21 @@ pub fn turn(
     registers: &mut [u8],
     marks: &mut [u8],
     memory: &mut [u8],
-) -> Turned
-    ensures { turned_as result (seals_in seals.now) registers.new marks.new memory.new
+) -> Result<Turned, Refusal>
+    ensures { turned_as run m result (seals_in seals.now) registers.new marks.new memory.new
         ≡ turn_outcome chosen (running run (bench_of m (seals_in seals.now) registers.old marks.old memory.old)) }
 {
     if !unit_faults::is_sound(m, seals, registers, marks) {
-        return Turned {
-            answer: Answer::BadArguments,
-            run: run,
-            machine: m,
-        };
+        return Err(Refusal::BadArguments);
     }
     if !run_place::is_sound_run(run) {
-        return Turned {
-            answer: Answer::BadArguments,
-            run: run,
-            machine: m,
-        };
+        return Err(Refusal::BadArguments);
     }
-    let moved = take_turn(run, m, seals, registers, marks, memory);
-    let answer = moved.answer;
-    let place = moved.place;
-    let after = run_place::at_place(run, place);
-    let machine = moved.machine;
-    Turned {
-        answer: answer,
-        run: after,
-        machine: machine,
-    }
+    let moved = take_turn(run, m, seals, registers, marks, memory)?;
+    Ok(Turned {
+        run: run_place::at_place(run, moved.place),
+        machine: moved.machine,
+    })
 }
 
 // Up to limit turns. They leave what as many calls of `turn` leave; the state is validated once.
@@ -313,24 +268,21 @@ pub fn turns(
     if !unit_faults::is_sound(m, seals, registers, marks) {
         return Taken {
             count: 0,
-            run: run,
+            run,
             machine: m,
         };
     }
     if !run_place::is_sound_run(run) {
         return Taken {
             count: 0,
-            run: run,
+            run,
             machine: m,
         };
     }
     let progress = take_turns(limit, run, m, seals, registers, marks, memory);
-    let place = progress.place;
-    let after = run_place::at_place(run, place);
-    let machine = progress.machine;
     Taken {
         count: progress.count,
-        run: after,
-        machine: machine,
+        run: run_place::at_place(run, progress.place),
+        machine: progress.machine,
     }
 }

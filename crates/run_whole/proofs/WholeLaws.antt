@@ -7,7 +7,7 @@ use Rattle.machine.specs.Geometry.{Bench}
 use Rattle.machine.specs.Setting.{chosen}
 use Rattle.machine.proofs.TestLaws.{false-true}
 use Rattle.run.specs.declared.Plan.{Plan}
-use Rattle.run.specs.declared.RunStarted.{RunStarted}
+use Rattle.run.specs.Start.{RunStarted}
 use Rattle.run.specs.Words.{Shape, steps}
 use Rattle.run.specs.Plan.{shape}
 use Rattle.run.specs.Start.{RunStart, start_run, run_started_as}

@@ -7,7 +7,7 @@ ghost use Rattle.machine.specs.Setting.{chosen};
 ghost use Rattle.unit_ranges.specs.Ranges.{seals_in};
 ghost use Rattle.run.specs.Whole.{whole, finished_as, Delivers};
 
-use machine::Machine;
+use machine::{Machine, Refusal};
 use run::{Finished, Plan};
 
 // Starts a run and takes turns until one is refused: C becomes the product, and no other byte of memory changes.
@@ -18,22 +18,13 @@ pub fn whole(
     registers: &mut [u8],
     marks: &mut [u8],
     memory: &mut [u8],
-) -> Finished
-    ensures memory_after { finished_as result (seals_in seals.now) registers.new marks.new memory.new
+) -> Result<Finished, Refusal>
+    ensures memory_after { finished_as m result (seals_in seals.now) registers.new marks.new memory.new
         ≡ whole chosen plan (bench_of m (seals_in seals.now) registers.old marks.old memory.old) }
     ensures delivers { Delivers plan (bench_of m (seals_in seals.now) registers.old marks.old memory.old)
-        (finished_as result (seals_in seals.now) registers.new marks.new memory.new) }
+        (finished_as m result (seals_in seals.now) registers.new marks.new memory.new) }
 {
-    let started = run_start::start(plan, m, seals, registers, marks, memory);
-    let answer = started.answer;
-    if !unit_answers::is_done(answer) {
-        return Finished {
-            answer: answer,
-            count: 0,
-            machine: m,
-        };
-    }
-    let run = started.run;
+    let run = run_start::start(plan, m, seals, registers, marks, memory)?;
     let taken = run_turn::turns(
         0xffff_ffff_ffff_ffff,
         run,
@@ -43,10 +34,8 @@ pub fn whole(
         marks,
         memory,
     );
-    let after = taken.machine;
-    Finished {
-        answer: answer,
+    Ok(Finished {
         count: taken.count,
-        machine: after,
-    }
+        machine: taken.machine,
+    })
 }

@@ -13,10 +13,10 @@ use Rattle.machine.specs.declared.Instruction.TheVariants.{Illegal}
 use Rattle.machine.specs.Tests.{is_in, every}
 use Rattle.machine.specs.Listing.{field7, field15, field20, listing, in_range, ranged}
 use Rattle.unit_table.specs.Table.{meant}
-use Rattle.text_assembly.specs.declared.Texted.{Texted}
-use Rattle.text_assembly.specs.declared.Texted.TheVariants.{Done, NoLine}
+use Rattle.std.specs.Prelude.{Ok, Err}
+use Rattle.text_assembly.specs.declared.TextError.TheVariants.{NoLine}
 use Rattle.text_assembly.specs.Bytes.{bytes}
-use Rattle.text_assembly.specs.Answers.{code_answer}
+use Rattle.text_assembly.specs.Answers.{Texted, code_answer}
 
 abbrev pub shapes : List ℕ
 shapes = bytes "-ssssssssttttttttccccttttttttccccmmm.me.e.ee.e.ee.e.ee.e.eeee................................................ttttttttccccttttttttcccc................................................................................................vc....vc..................."
@@ -31,10 +31,10 @@ shape_in l w =
     (cond (eqb l 101) (every (ltb (field7 w) 2 ∷ ltb (field15 w) 2 ∷ [])) true))))
 
 abbrev pub shape_code : ℕ → Texted
-shape_code l = cond (is_in l (116 ∷ 99 ∷ 118 ∷ 109 ∷ 101 ∷ 115 ∷ [])) Done (NoLine (cond (eqb l 45) Unlisted LeftOut))
+shape_code l = cond (is_in l (116 ∷ 99 ∷ 118 ∷ 109 ∷ 101 ∷ 115 ∷ [])) (Ok tt) (Err (NoLine (cond (eqb l 45) Unlisted LeftOut)))
 
 abbrev pub shape_answer : (shape word : ℕ) → Texted
-shape_answer l w = cond (shape_in l w) (shape_code l) (NoLine Register)
+shape_answer l w = cond (shape_in l w) (shape_code l) (Err (NoLine Register))
 
 -- k numbers from a on
 abbrev numbers_from : (a k : ℕ) → List ℕ
@@ -65,15 +65,15 @@ pub shape-in : (w n : ℕ) → n < 256 → in_range (meant n w listing) ≡ shap
 unfolding listing
 shape-in w n l = at_each (λ (x : ℕ). in_range (meant x w listing)) (λ (x : ℕ). shape_in x w) shapes n refl l
 
-ranged-code : (i : Instruction) → code_answer (ranged i) ≡ cond (in_range i) (code_answer i) (NoLine Register)
+ranged-code : (i : Instruction) → code_answer (ranged i) ≡ cond (in_range i) (code_answer i) (Err (NoLine Register))
 ranged-code i = go (in_range i)
   where
-    go : (b : Bool) → code_answer (cond b i (Illegal Register)) ≡ cond b (code_answer i) (NoLine Register)
+    go : (b : Bool) → code_answer (cond b i (Illegal Register)) ≡ cond b (code_answer i) (Err (NoLine Register))
     go true = refl
     go false = refl
 
 pub by_shape : (w n : ℕ) → n < 256 → code_answer (ranged (meant n w listing)) ≡ shape_answer (get_or shapes n 0) w
-by_shape w n l = ranged-code (meant n w listing) ∙ ap₂ (λ (b : Bool) (a : Texted). cond b a (NoLine Register)) (shape-in w n l) (shape-code w n l)
+by_shape w n l = ranged-code (meant n w listing) ∙ ap₂ (λ (b : Bool) (a : Texted). cond b a (Err (NoLine Register))) (shape-in w n l) (shape-code w n l)
 
 -- ---- for code: one of the shapes, or none
 
@@ -83,7 +83,7 @@ with-shape w n k l e r h = h ∙ sym (by_shape w n l ∙ ap (λ (x : ℕ). shape
 abbrev pub NoShape : ℕ → Type 0
 NoShape l = ((((((Unit {0} × (l ≡ 116 → ⊥)) × (l ≡ 99 → ⊥)) × (l ≡ 118 → ⊥)) × (l ≡ 109 → ⊥)) × (l ≡ 101 → ⊥)) × (l ≡ 115 → ⊥)) × (l ≡ 45 → ⊥)
 
-no-shape : (l w : ℕ) → NoShape l → NoLine LeftOut ≡ shape_answer l w
+no-shape : (l w : ℕ) → NoShape l → Err (NoLine LeftOut) ≡ shape_answer l w
 no-shape l w m = rw (
   ne_eqb l 116 m.0.0.0.0.0.0.1,
   ne_eqb l 99 m.0.0.0.0.0.1,
@@ -94,7 +94,7 @@ no-shape l w m = rw (
   ne_eqb l 45 m.1,
 )
 
-pub without-shape : (w n : ℕ) → n < 256 → NoShape (get_or shapes n 0) → NoLine LeftOut ≡ code_answer (ranged (meant n w listing))
+pub without-shape : (w n : ℕ) → n < 256 → NoShape (get_or shapes n 0) → Err (NoLine LeftOut) ≡ code_answer (ranged (meant n w listing))
 without-shape w n l m = no-shape (get_or shapes n 0) w m ∙ sym (by_shape w n l)
 
 pub registers-as : (x y z w : ℕ) → x ≡ field7 w → y ≡ field15 w → z ≡ field20 w

@@ -2,8 +2,7 @@
 use Rattle.numbers.proofs.Kit.{◌≡◌, refl, sym, ap, ap₂, ◌∙◌, Bool, true, false, cond, ◌||◌, List, [], ◌∷◌, ℕ, zero, suc, ◌%◌, ◌^◌, arith, eqb, get_or}
 use Rattle.numbers.proofs.Kit.{replicate, ℤ, eq-eqb}
 use Rattle.numbers.specs.Reduce.{signed}
-use Rattle.machine.specs.declared.Answer.{Answer}
-use Rattle.machine.specs.declared.Answer.TheVariants.{Done, BadArguments}
+use Rattle.machine.specs.declared.Refusal.TheVariants.{BadArguments}
 use Rattle.machine.specs.declared.Dimension.{Dimension}
 use Rattle.machine.specs.declared.Dimension.TheVariants.{DimensionM, DimensionK, DimensionN}
 use Rattle.machine.specs.declared.Factor.{Factor}
@@ -12,7 +11,7 @@ use Rattle.machine.specs.declared.Form.TheVariants.{Plain, Transposed}
 use Rattle.machine.specs.declared.Wrong.TheVariants.{Register, Opcode}
 use Rattle.machine.specs.declared.Instruction.{Instruction}
 use Rattle.machine.specs.declared.Instruction.TheVariants.{Illegal, SetTile, Scale, ScaleImmediate, MoveOut, MoveIn}
-use Rattle.machine.specs.Answers.{◌otherwise◌, verdict, is_done}
+use Rattle.machine.specs.Answers.{◌otherwise◌, verdict, is_done, Answer, Done}
 use Rattle.machine.specs.Geometry.{sealed, Parameters, parameters, Bench, bench_of, state_of, scalar}
 use Rattle.machine.specs.Setting.{sew, legal_type, new_type, chosen, maximum}
 use Rattle.machine.specs.Memory.{inside, misses, rows_miss, distinct}

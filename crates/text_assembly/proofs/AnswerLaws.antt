@@ -1,12 +1,11 @@
 -- Words that have no line are refused for their code; a word that has one comes back.
-use Rattle.numbers.proofs.Kit.{◌≡◌, refl, sym, ap, ◌∙◌, Bool, true, false, cond, List, [], ◌∷◌, Option, none, some, ℕ, arith}
-use Rattle.machine.specs.declared.Answer.{Answer}
-use Rattle.machine.specs.declared.Answer.TheVariants.{BadArguments}
+use Rattle.numbers.proofs.Kit.{◌≡◌, refl, sym, ap, ◌∙◌, Bool, true, false, cond, List, [], ◌∷◌, Option, none, some, ℕ, arith, Err}
+use Rattle.machine.specs.declared.Refusal.TheVariants.{BadArguments}
 use Rattle.machine.specs.declared.Wrong.{Wrong}
 use Rattle.machine.specs.declared.Wrong.TheVariants.{Opcode, LeftOut, Unlisted, Register}
 use Rattle.machine.specs.declared.Instruction.{Instruction}
 use Rattle.machine.specs.declared.Instruction.TheVariants.{Illegal, SetTypeImmediate, SetType, SetTileImmediate, SetTile, Load, Store, Multiply, Combine, Scale, ScaleImmediate, FloatMultiply, MoveOut, MoveIn}
-use Rattle.machine.specs.Answers.{number, is_done, verdict, ◌otherwise◌}
+use Rattle.machine.specs.Answers.{number, is_done, verdict, ◌otherwise◌, Answer}
 use Rattle.machine.specs.Refusals.{word_answer}
 use Rattle.machine.specs.Geometry.{Parameters, parameters, Bench}
 use Rattle.machine.specs.Faults.{sound_bench, thirty_two}
@@ -34,7 +33,7 @@ module _ (W : Vectors) (M : Parameters) (xs : List ℕ) (B : Bench) (wrong : Wro
   out a = cond (is_done a) (carried_in W M (Illegal wrong) xs B) (refused_in W M (Illegal wrong) xs B a)
 
   abbrev stepped : Bool → Answer → VectorOutcome
-  stepped v a = cond v (beside (vectors_in W M (Illegal wrong) xs B) (out a)) (beside W.file (refused_in W M (Illegal wrong) xs B BadArguments))
+  stepped v a = cond v (beside (vectors_in W M (Illegal wrong) xs B) (out a)) (beside W.file (refused_in W M (Illegal wrong) xs B (Err BadArguments)))
 
   never : (v s t : Bool) → (stepped v (told s t)).answer.number ≡ 0 → ⊥
   never false s t h = omega arith
@@ -42,16 +41,16 @@ module _ (W : Vectors) (M : Parameters) (xs : List ℕ) (B : Bench) (wrong : Wro
   never true true false h = omega arith
   never true true true h = go wrong h
     where
-      go : (w : Wrong) → (out (word_answer w)).answer.number ≡ 0 → ⊥
+      go : (w : Wrong) → (out (Err (word_answer w))).answer.number ≡ 0 → ⊥
       go Opcode h = omega arith
       go LeftOut h = omega arith
       go Unlisted h = omega arith
       go Register h = omega arith
 
-  coded : (stepped true (told true true)).answer.number ≡ number (word_answer wrong)
+  coded : (stepped true (told true true)).answer.number ≡ number (Err (word_answer wrong))
   coded = go wrong
     where
-      go : (w : Wrong) → (out (word_answer w)).answer.number ≡ number (word_answer w)
+      go : (w : Wrong) → (out (Err (word_answer w))).answer.number ≡ number (Err (word_answer w))
       go Opcode = refl
       go LeftOut = refl
       go Unlisted = refl

@@ -1,13 +1,12 @@
 -- 02, Fourteen: the two programs, text to text. A text is its bytes.
-use Rattle.std.specs.Prelude.{◌∷◌, ◌++◌}
+use Rattle.std.specs.Prelude.{◌∷◌, ◌++◌, Err}
 use Rattle.numbers.specs.Kit.{Bool, cond, List, [], Option, none, some, ℕ, suc, eqb, leb, length}
 use Rattle.machine.specs.Listing.{decode}
 use Rattle.text_lines.specs.Lines.{decimal}
 use Rattle.numbers_format.specs.Parser.{Parsed}
 use Rattle.numbers_format.specs.Parser.Parsed.{whole, stopped}
-use Rattle.text_assembly.specs.declared.Texted.{Texted}
-use Rattle.text_assembly.specs.declared.Texted.TheVariants.{BadArguments, BadLine}
-use Rattle.text_assembly.specs.Answers.{text_reply, code_answer}
+use Rattle.text_assembly.specs.declared.TextError.TheVariants.{BadArguments, BadLine}
+use Rattle.text_assembly.specs.Answers.{Texted, text_reply, code_answer}
 use Rattle.text_assembly.specs.Bytes.{bytes}
 use Rattle.text_assembly.specs.Lines.{line}
 use Rattle.text_assembly.specs.Reading.{read_line}
@@ -23,7 +22,7 @@ refused a = refusal (text_reply a).number (text_reply a).column
 
 -- "17 with the column, from 1": the place counts from 0
 abbrev pub bad_line : ℕ → List ℕ
-bad_line place = refused (BadLine (suc place))
+bad_line place = refused (Err (BadLine (suc place)))
 
 -- ---- a line of each program
 
@@ -65,4 +64,4 @@ replies back (l ∷ ls) = reply_to back l ++ (10 ∷ replies back ls)
 
 -- "Input above 65,536 bytes gives `answer 8 0` alone."
 unfoldable pub program_text : (back : Bool) → List ℕ → List ℕ
-program_text back t = cond (leb (length t) 65536) (replies back (lines_of t)) (refused BadArguments ++ (10 ∷ []))
+program_text back t = cond (leb (length t) 65536) (replies back (lines_of t)) (refused (Err BadArguments) ++ (10 ∷ []))

@@ -1,12 +1,11 @@
-// What listing words and lines answers. The line of a word, and what each line is read as, is defined in specs/.
+// What is wrong with a word or a line of text. The line of a word, and what each line is read as, is defined in specs/.
 #![tactic(auto)]
 
 use machine::Wrong;
 
-// specs/Answers.antt gives the number and the column of each case.
+// specs/Answers.antt gives the number and the column of each.
 #[derive(Clone, Copy)]
-pub enum Texted {
-    Done,
+pub enum TextError {
     NoLine { wrong: Wrong },
     BadArguments,
     NoRoom,

@@ -1,8 +1,11 @@
 -- Laws of decimal text and of writers.
 use Rattle.numbers.proofs.Kit.{◌≡◌, refl, sym, ap, ◌∙◌, subst, ◌⊎◌, inl, inr, true, false, List, [], ◌∷◌, ◌++◌, append_assoc, append-nil, ℕ, zero, suc, ◌+◌}
 use Rattle.numbers.proofs.Kit.{◌*◌, ◌-◌, ◌/◌, ◌%◌, ◌^◌, ◌≤◌, ◌<◌, mod-eq_of_lt, mul-le-mul_right, pow-succ', suc-mul, arith, add-one, leb, length, take}
-use Rattle.numbers.proofs.Kit.{drop, get_or, set, length-append, length-take, length-set, drop_of_length-le, take-suc-set, drop-set-lt, drop-cons, drop-drop}
+use Rattle.numbers.proofs.Kit.{drop, get_or, length-append, length-take, drop_of_length-le, drop-cons, drop-drop}
 use Rattle.numbers.proofs.Kit.{get_or-drop, leb-true, leb-false, lt-ltb, le-ltb, le-leb, lt-leb}
+use Rattle.numbers.proofs.Kit.{length-drop, length-take-le}
+use borrow.Rule.Slice.PartMut.{put_mid, same_len_mid}
+use Rattle.std.proofs.lemmas.Slice.{take-put_mid, drop-put_mid}
 use Rattle.numbers.specs.Reduce.{signed}
 use Rattle.numbers.proofs.BlockLaws.{le-or-lt}
 use Rattle.text_lines.specs.Lines.{digits_of, decimal, number_text, further_numbers, spaced, lines, first_line, steps_word}
@@ -47,11 +50,16 @@ length-one n h = ap length (decimal-one n h)
 
 -- ---- writers one after another
 
-pub wrote-byte : (l : List ℕ) (at b : ℕ) → at < length l → Wrote l at (set l at b) (at + 1) (b ∷ [])
-wrote-byte l at b h = record { to = refl; same = length-set l at b; text = rw add-one (take-suc-set l at b h); rest = drop-set-lt (at + 1) l at b (omega arith) }
-
-pub wrote_none : (e : List ℕ) (at : ℕ) (t : List ℕ) → t ≡ [] → Wrote e at e at t
-wrote_none e at t f = subst (λ (l : List ℕ). Wrote e at e at l) (sym f) (record { to = omega arith; same = refl; text = sym (append-nil (take at e)); rest = refl })
+-- a part of the room overwritten by text
+pub wrote_part : (e x t : List ℕ) (at k : ℕ) → x ≡ t → k ≡ length t → at + length t ≤ length e → Wrote e at (put_mid at k e x) (at + length t) t
+wrote_part e x t at k f g h =
+    let long : length x ≡ k = ap length f ∙ sym g in
+    record {
+      to = refl;
+      same = same_len_mid at k e x (long ∙ sym (length-take-le k (drop at e) (omega (arith, length-drop at e))));
+      text = take-put_mid at k e x (at + length t) (omega arith) (omega arith) ∙ ap (λ (l : List ℕ). take at e ++ l) f;
+      rest = drop-put_mid at k e x (at + length t) (omega arith) (omega arith) long;
+    }
 
 rest_more : (e x y : List ℕ) (p q : ℕ) → p ≤ q → drop p x ≡ drop p e → drop q y ≡ drop q x → drop q y ≡ drop q e
 rest_more e x y p q l f g =
@@ -109,13 +117,8 @@ tail_more q row j h = rw (add-one, drop-cons row j 0 h)
 pub tail-end : (q : ℕ) (row : List ℕ) (j : ℕ) → length row ≤ j → tail_text q row j ≡ []
 tail-end q row j h = rw (drop_of_length-le row h)
 
-pub row_first : (q : ℕ) (row : List ℕ) → 0 < length row → spaced (signed_all q row) ≡ number_text (signed q (get_or row 0 0)) ++ tail_text q row 1
-row_first q [] h = absurd (omega arith)
-row_first q (x ∷ row) h = refl
-
-pub row-none : (q : ℕ) (row : List ℕ) → length row ≡ 0 → spaced (signed_all q row) ≡ []
-row-none q [] h = refl
-row-none q (x ∷ row) h = absurd (omega arith)
+pub row_first : (q : ℕ) (row : List ℕ) (x : ℕ) (others : List ℕ) → row ≡ x ∷ others → spaced (signed_all q row) ≡ number_text (signed q x) ++ tail_text q others 0
+row_first q row x others e = ap (λ (l : List ℕ). spaced (signed_all q l)) e
 
 -- ---- signed numbers
 
@@ -124,13 +127,6 @@ minus-text q x e = rw (le-ltb (x + x) q (leb-true q (x + x) e))
 
 pub plus-text : (q x : ℕ) → leb q (x + x) ≡ false → number_text (signed q x) ≡ decimal x
 plus-text q x e = rw (lt-ltb (x + x) q (leb-false q (x + x) e))
-
-pub minus-test : (q x : ℕ) → x < q → leb (q - x) x ≡ leb q (x + x)
-minus-test q x h = go (le-or-lt q (x + x))
-  where
-    go : (q ≤ x + x) ⊎ (x + x < q) → leb (q - x) x ≡ leb q (x + x)
-    go (inl l) = le-leb (q - x) x (omega arith) ∙ sym (le-leb q (x + x) l)
-    go (inr l) = lt-leb (q - x) x (omega arith) ∙ sym (lt-leb q (x + x) l)
 
 -- ---- lines
 
@@ -143,9 +139,6 @@ lines_more q c rows cols i from h =
     let e : rows - i ≡ suc (rows - (i + 1)) = omega arith in
     let f : from + cols - from ≡ cols = omega arith in
     rw (e, f, take-map (signed q) cols (drop from c), drop-map (signed q) cols (drop from c), drop-drop cols from c)
-
-pub lines_end : (q : ℕ) (c : List ℕ) (rows cols i from : ℕ) → rows ≤ i → rest_lines q c rows cols i from ≡ []
-lines_end q c rows cols i from h = let e : rows - i ≡ zero = omega arith in rw e
 
 -- ---- room
 

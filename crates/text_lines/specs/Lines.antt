@@ -1,8 +1,8 @@
 -- 01, the program `product`: the lines that it writes. A text is its bytes, and a line ends with a line feed.
 use Rattle.std.specs.Prelude.{◌∷◌, ◌++◌, ◌+◌, ◌/◌, ◌%◌}
-use Rattle.numbers.specs.Kit.{cond, List, [], ℕ, zero, suc, ltb, ℤ, pos, negsuc}
-use Rattle.machine.specs.declared.Answer.TheVariants.{Done, BadArguments}
-use Rattle.machine.specs.Answers.{number}
+use Rattle.numbers.specs.Kit.{cond, List, [], ℕ, zero, suc, ltb, ℤ, pos, negsuc, Err}
+use Rattle.machine.specs.declared.Refusal.TheVariants.{BadArguments}
+use Rattle.machine.specs.Answers.{number, Done}
 
 -- ---- a number in decimal
 
@@ -54,4 +54,4 @@ accepted count rows = first_line (number Done) count ++ lines rows
 
 -- "the line `answer 8 steps 0` alone"
 abbrev pub refused : List ℕ
-refused = first_line (number BadArguments) 0
+refused = first_line (number (Err BadArguments)) 0

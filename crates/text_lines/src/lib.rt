@@ -21,30 +21,25 @@ pub fn put_decimal(out: &mut [u8], at: usize, n: u64) -> usize
     ensures { Wrote out.old at out.new result (decimal n) }
 {
     if n < 10 {
-        return put_byte(out, at, 48 + (n as u8));
+        put_byte(out, at, b'0' + (n as u8))
+    } else {
+        let next = put_decimal(out, at, n / 10);
+        put_byte(out, next, b'0' + ((n % 10) as u8))
     }
-    let next = put_decimal(out, at, n / 10);
-    put_byte(out, next, 48 + ((n % 10) as u8))
 }
 
 // Whether x stands for a number below 0 at the modulus q.
 fn is_minus(q: u64, x: u64) -> bool
     ensures { result ≡ leb q (x + x) }
 {
-    if x < q {
-        return q - x <= x;
-    }
-    true
+    q.saturating_sub(x) <= x
 }
 
 // The digits of that number.
 fn magnitude(q: u64, x: u64) -> u64
     ensures { result ≡ suc (q - suc x) }
 {
-    if x < q {
-        return q - x;
-    }
-    1
+    q.saturating_sub(x).max(1)
 }
 
 // The signed number that x stands for at the modulus q.
@@ -53,10 +48,11 @@ fn put_signed(out: &mut [u8], at: usize, q: u64, x: u64) -> usize
     ensures { Wrote out.old at out.new result (number_text (signed q x)) }
 {
     if is_minus(q, x) {
-        let next = put_byte(out, at, 45);
-        return put_decimal(out, next, magnitude(q, x));
+        let next = put_byte(out, at, b'-');
+        put_decimal(out, next, magnitude(q, x))
+    } else {
+        put_decimal(out, at, x)
     }
-    put_decimal(out, at, x)
 }
 
 // A row of numbers, with one space between.
@@ -64,15 +60,13 @@ fn put_row(out: &mut [u8], at: usize, q: u64, row: &[u64]) -> usize
     requires { at + length (spaced (signed_all q row.now)) ≤ length out.old }
     ensures { Wrote out.old at out.new result (spaced (signed_all q row.now)) }
 {
-    if row.len() == 0 {
+    let Some((first, others)) = row.split_first() else {
         return at;
-    }
-    let mut next = put_signed(out, at, q, row[0]);
-    let mut j: usize = 1;
-    while j < row.len() {
-        next = put_byte(out, next, 32);
-        next = put_signed(out, next, q, row[j]);
-        j += 1;
+    };
+    let mut next = put_signed(out, at, q, *first);
+    for x in others {
+        next = put_byte(out, next, b' ');
+        next = put_signed(out, next, q, *x);
     }
     next
 }
@@ -82,13 +76,9 @@ pub fn put_text(out: &mut [u8], at: usize, text: &[u8]) -> usize
     requires { at + length text.now ≤ length out.old }
     ensures { Wrote out.old at out.new result text.now }
 {
-    let mut next = at;
-    let mut j: usize = 0;
-    while j < text.len() {
-        next = put_byte(out, next, text[j]);
-        j += 1;
-    }
-    next
+    let end = at + text.len();
+    out[at..end].copy_from_slice(text);
+    end
 }
 
 // A line for each row of a matrix that stands row by row in c.
@@ -97,14 +87,10 @@ fn put_lines(out: &mut [u8], at: usize, q: u64, c: &[u64], rows: usize, cols: us
     ensures { Wrote out.old at out.new result (lines (rows_of rows cols (signed_all q c.now))) }
 {
     let mut next = at;
-    let mut from: usize = 0;
-    let mut i: usize = 0;
-    while i < rows {
-        let to = from + cols;
-        next = put_row(out, next, q, &c[from..to]);
-        next = put_byte(out, next, 10);
-        from = to;
-        i += 1;
+    for i in 0..rows {
+        let from = i * cols;
+        next = put_row(out, next, q, &c[from..from + cols]);
+        next = put_byte(out, next, b'\n');
     }
     next
 }
@@ -118,7 +104,7 @@ fn put_first(out: &mut [u8], answer: u64, steps: u64) -> usize
     let b = put_decimal(out, a, answer);
     let c = put_text(out, b, b" steps ");
     let d = put_decimal(out, c, steps);
-    put_byte(out, d, 10)
+    put_byte(out, d, b'\n')
 }
 
 // The text of a product that was made in so many steps.

@@ -59,10 +59,6 @@ feed-bound (b ∷ t) = go (eqb b 10) (feed-bound t)
     go true h = omega arith
     go false h = omega arith
 
--- a line that no line feed ends is not empty
-pub feed-some : (t : List ℕ) → 0 < length t → feed_at t ≡ length t → 1 ≤ feed_at t
-feed-some t h e = omega arith
-
 -- ---- how long a reply is
 
 refusal-size : (a c : ℕ) → a < 100 → length (refusal a c) ≤ 10 + length (decimal c)

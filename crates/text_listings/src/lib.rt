@@ -1,73 +1,50 @@
 // Listings in assembler text: from words to lines and back, text to text. What they mean is defined in `text_assembly`.
 #![tactic(auto)]
 
-ghost use Rattle.std.specs.Prelude.{◌≡◌, true, false, ◌+◌, ◌/◌, ◌%◌, ◌^◌, ◌≤◌, ◌<◌, length, take, drop};
-ghost use Rattle.machine.specs.Listing.{listing};
+ghost use Rattle.std.specs.Prelude.{◌≡◌, true, false, Err, ◌+◌, ◌/◌, ◌%◌, ◌^◌, ◌≤◌, ◌<◌, length, take, drop};
 ghost use Rattle.text_lines.specs.Parts.{Wrote};
 ghost use Rattle.text_assembly.specs.Lines.{line};
 ghost use Rattle.text_assembly.specs.Reading.{read_line};
 ghost use Rattle.text_assembly.specs.Words.{hex_of, word_text, read_word};
-ghost use Rattle.text_assembly.specs.Programs.{listed, listed_as, assembled_as, reply_to, lines_of, replies, program_text};
-ghost use Rattle.text_read.specs.Table.{table};
+ghost use Rattle.text_assembly.specs.Programs.{bad_line, listed, listed_as, assembled_as, reply_to, lines_of, replies, program_text};
 ghost use Rattle.text_read.specs.Parts.{as_line};
-ghost use Rattle.text_write.specs.Parts.{finds};
-ghost use Rattle.text_listings.specs.Parts.{hex_or};
+ghost use Rattle.text_listings.specs.Parts.{digit_at};
 
-use text_answers::{answer_number, code_answer, number_of, put_refused};
-use text_assembly::Texted;
-use text_read::Line;
-use text_write::{INDEX, ROWS};
+use text_answers::{code_answer, number_of, put_refused};
+use text_assembly::TextError;
+use text_read::Fault;
 
 // ---- words in digits
 
-// The value of a digit; 16, if it is none.
-fn hex_value(b: u8) -> u64
-    ensures { result ≡ hex_or b }
+// The value of a digit.
+fn hex_value(b: u8) -> Option<u64>
+    ensures { result ≡ digit_at b }
 {
     match b {
-        48..=57 => (b - 48) as u64,
-        97..=102 => (b - 87) as u64,
-        _ => 16,
+        b'0'..=b'9' => Some(u64::from(b - b'0')),
+        b'a'..=b'f' => Some(u64::from(b - b'a') + 10),
+        _ => None,
     }
 }
 
 // The word of a line of eight digits.
-fn read_word(line: &[u8]) -> Line
+fn read_word(line: &[u8]) -> Result<u64, Fault>
     ensures { result ≡ as_line (read_word line.now) }
 {
-    let mut word: u64 = 0;
-    let mut i: usize = 0;
-    while i < 8 {
+    let mut word = 0;
+    for i in 0..8 {
         if line.len() <= i {
-            return Line::Bad { place: i };
+            return Err(Fault { place: i });
         }
-        let d = hex_value(line[i]);
-        if 16 <= d {
-            return Line::Bad { place: i };
+        match hex_value(line[i]) {
+            Some(d) => word = 16 * word + d,
+            None => return Err(Fault { place: i }),
         }
-        word = 16 * word + d;
-        i += 1;
     }
     if 8 < line.len() {
-        return Line::Bad { place: 8 };
+        return Err(Fault { place: 8 });
     }
-    Line::Word { word: word }
-}
-
-fn power(n: usize) -> u64
-    requires { n < 8 }
-    ensures { result ≡ 16 ^ n }
-{
-    match n {
-        0 => 1,
-        1 => 16,
-        2 => 256,
-        3 => 4096,
-        4 => 65536,
-        5 => 0x10_0000,
-        6 => 0x100_0000,
-        _ => 0x1000_0000,
-    }
+    Ok(word)
 }
 
 // Digit n of a word, from the lowest on.
@@ -75,11 +52,8 @@ fn hex_digit(word: u64, n: usize) -> u8
     requires { n < 8 }
     ensures { result ≡ hex_of (word / 16 ^ n % 16) }
 {
-    let d = word / power(n) % 16;
-    if d < 10 {
-        return 48 + (d as u8);
-    }
-    87 + (d as u8)
+    let d = ((word >> (4 * n)) % 16) as u8;
+    if d < 10 { b'0' + d } else { b'a' - 10 + d }
 }
 
 // A word in eight digits.
@@ -88,10 +62,8 @@ fn put_word(out: &mut [u8], at: usize, word: u64) -> usize
     ensures { Wrote out.old at out.new result (word_text word) }
 {
     let mut next = at;
-    let mut n: usize = 8;
-    while 0 < n {
-        n -= 1;
-        next = text_lines::put_byte(out, next, hex_digit(word, n));
+    for n in 0..8 {
+        next = text_lines::put_byte(out, next, hex_digit(word, 7 - n));
     }
     next
 }
@@ -99,89 +71,80 @@ fn put_word(out: &mut [u8], at: usize, word: u64) -> usize
 // ---- lines
 
 // The line of a word, or its refusal.
-fn put_listed(out: &mut [u8], at: usize, rows: &[u8], index: &[u8], word: u32) -> usize
-    requires rows_value { (rows.now ≡ table) × (finds index.now 0 listing ≡ true) × (length index.now ≡ 512) }
-    requires word_in_bounds { at + length (listed word (line word)) ≤ length out.old }
+fn put_listed(out: &mut [u8], at: usize, word: u32) -> usize
+    requires { at + length (listed word (line word)) ≤ length out.old }
     ensures { Wrote out.old at out.new result (listed word (line word)) }
 {
     let number = number_of(word);
-    let answer = code_answer(word, number);
-    if answer_number(answer) == 0 {
-        return text_write::put_line(out, at, rows, index, number, word);
+    match code_answer(word, number) {
+        Ok(()) => text_write::put_line(out, at, number, word),
+        Err(error) => put_refused(out, at, error),
     }
-    put_refused(out, at, answer)
+}
+
+// The refusal of a line at this place.
+fn put_bad_line(out: &mut [u8], at: usize, fault: Fault) -> usize
+    requires fault_place_bound { fault.place ≤ 65536 }
+    requires bad_line_in_bounds { at + length (bad_line fault.place) ≤ length out.old }
+    ensures { Wrote out.old at out.new result (bad_line fault.place) }
+{
+    put_refused(
+        out,
+        at,
+        TextError::BadLine {
+            column: fault.place as u64 + 1,
+        },
+    )
 }
 
 // The reply to a line of eight digits.
-fn list_line(out: &mut [u8], at: usize, line: &[u8], rows: &[u8], index: &[u8]) -> usize
-    requires rows_value { (rows.now ≡ table) × (finds index.now 0 listing ≡ true) × (length index.now ≡ 512) }
-    requires line_len_bound { (length line.now ≤ 65536) × (at + length (listed_as (read_word line.now)) ≤ length out.old) }
+fn list_line(out: &mut [u8], at: usize, line: &[u8]) -> usize
+    requires { (length line.now ≤ 65536) × (at + length (listed_as (read_word line.now)) ≤ length out.old) }
     ensures { Wrote out.old at out.new result (listed_as (read_word line.now)) }
 {
     match read_word(line) {
-        Line::Word { word } => {
-            return put_listed(out, at, rows, index, word as u32);
-        }
-        Line::Bad { place } => {
-            return put_refused(
-                out,
-                at,
-                Texted::BadLine {
-                    column: place as u64 + 1,
-                },
-            );
-        }
+        Ok(word) => put_listed(out, at, word as u32),
+        Err(fault) => put_bad_line(out, at, fault),
     }
 }
 
 // The reply to a line of assembler text.
-fn assemble_line(out: &mut [u8], at: usize, line: &[u8], rows: &[u8], index: &[u8]) -> usize
-    requires rows_value { (rows.now ≡ table) × (finds index.now 0 listing ≡ true) × (length index.now ≡ 512) }
-    requires line_len_bound { (length line.now ≤ 65536) × (at + length (assembled_as (read_line line.now)) ≤ length out.old) }
+fn assemble_line(out: &mut [u8], at: usize, line: &[u8]) -> usize
+    requires { (length line.now ≤ 65536) × (at + length (assembled_as (read_line line.now)) ≤ length out.old) }
     ensures { Wrote out.old at out.new result (assembled_as (read_line line.now)) }
 {
-    match text_read::read_line(line, rows, index) {
-        Line::Word { word } => {
-            return put_word(out, at, word);
-        }
-        Line::Bad { place } => {
-            return put_refused(
-                out,
-                at,
-                Texted::BadLine {
-                    column: place as u64 + 1,
-                },
-            );
-        }
+    match text_read::read_line(line) {
+        Ok(word) => put_word(out, at, word),
+        Err(fault) => put_bad_line(out, at, fault),
     }
 }
 
 // The reply to a line.
-fn put_reply(out: &mut [u8], at: usize, line: &[u8], rows: &[u8], index: &[u8], back: bool) -> usize
-    requires rows_value { (rows.now ≡ table) × (finds index.now 0 listing ≡ true) × (length index.now ≡ 512) }
-    requires line_len_bound { (length line.now ≤ 65536) × (at + length (reply_to back line.now) ≤ length out.old) }
+fn put_reply(out: &mut [u8], at: usize, line: &[u8], back: bool) -> usize
+    requires { (length line.now ≤ 65536) × (at + length (reply_to back line.now) ≤ length out.old) }
     ensures { Wrote out.old at out.new result (reply_to back line.now) }
 {
     if back {
-        return assemble_line(out, at, line, rows, index);
+        assemble_line(out, at, line)
+    } else {
+        list_line(out, at, line)
     }
-    list_line(out, at, line, rows, index)
 }
 
 // ---- texts
 
 // The replies to all lines of a text, each with a line feed after it.
-fn put_replies(out: &mut [u8], text: &[u8], rows: &[u8], index: &[u8], back: bool) -> usize
-    requires rows_value { (rows.now ≡ table) × (finds index.now 0 listing ≡ true) × (length index.now ≡ 512) }
-    requires text_len_bound { (length text.now ≤ 65536) × (786432 ≤ length out.old) }
+fn put_replies(out: &mut [u8], text: &[u8], back: bool) -> usize
+    requires { (length text.now ≤ 65536) × (786432 ≤ length out.old) }
     ensures { Wrote out.old 0 out.new result (replies back (lines_of text.now)) }
 {
     let mut at: usize = 0;
     let mut from: usize = 0;
+    // A while: a line ends where its line feed stands, so a turn takes as many bytes as that.
     while from < text.len() {
         let to = text_read::line_end(text, from);
-        let next = put_reply(out, at, &text[from..to], rows, index, back);
-        at = text_lines::put_byte(out, next, 10);
+        let next = put_reply(out, at, &text[from..to], back);
+        at = text_lines::put_byte(out, next, b'\n');
         from = to + 1;
     }
     at
@@ -193,12 +156,10 @@ fn answer(text: &[u8], out: &mut [u8], back: bool) -> usize
     ensures { Wrote out.old 0 out.new result (program_text back text.now) }
 {
     if 65536 < text.len() {
-        let at = put_refused(out, 0, Texted::BadArguments);
-        return text_lines::put_byte(out, at, 10);
+        let at = put_refused(out, 0, TextError::BadArguments);
+        return text_lines::put_byte(out, at, b'\n');
     }
-    let rows = ROWS;
-    let index = INDEX;
-    put_replies(out, text, &rows, &index, back)
+    put_replies(out, text, back)
 }
 
 // Lines of assembler text for lines of eight digits: writes them, and returns how many bytes they are.

@@ -1,37 +1,49 @@
 // Reading a line of assembler text: the word whose line it is, or the place of the first character at which no line goes on.
 #![tactic(auto)]
 
-ghost use Rattle.std.specs.Prelude.{◌≡◌, false, List, ◌∷◌, ℕ, ◌+◌, ◌*◌, ◌-◌, ◌≤◌, ◌<◌, max, eqb, length, drop};
-ghost use Rattle.text_assembly.specs.Lines.{is_mark, operand_of, small};
+ghost use Rattle.std.specs.Prelude.{◌≡◌, Ok, List, ◌∷◌, ℕ, ◌+◌, ◌*◌, ◌-◌, ◌≤◌, ◌<◌, length, drop};
+ghost use Rattle.text_assembly.specs.Lines.{small};
 ghost use Rattle.text_assembly.specs.Reading.{is_digit, goes_on, digits_on, is_first, read_decimal, read_operand, read_line};
-ghost use Rattle.text_read.specs.Table.{base_of, table, row_at};
-ghost use Rattle.text_read.specs.Parts.{got_from, as_line, next_scale, row_from, end_at, go_on, Bounded, read_row, space_in, feed_at};
+ghost use Rattle.text_read.specs.Table.{row_at};
+ghost use Rattle.text_read.specs.Parts.{got_from, as_line, operand_in, meant_by, next_scale, row_from, end_at, go_on, Bounded, read_row, space_in, feed_at};
 
-// A number and the place after it, or the place at which none goes on.
+pub mod rows;
+
+// A number that was read, and the place after it.
 #[derive(Clone, Copy)]
-pub enum Read {
-    Value { number: u64, next: usize },
-    Fault { place: usize },
+pub struct Number {
+    pub value: u64,
+    pub next: usize,
 }
 
-// The word of a line, or the place at which no line goes on.
+// No line goes on at this place.
 #[derive(Clone, Copy)]
-pub enum Line {
-    Word { word: u64 },
-    Bad { place: usize },
+pub struct Fault {
+    pub place: usize,
 }
 
-// What a letter of a row's text comes to: the next place, the next operand's place in the word and what is known of the word; or a stop.
+// What a letter of a row's text stands for, if it is an operand.
 #[derive(Clone, Copy)]
-pub enum Step {
-    On { next: usize, scale: u64, word: u64 },
-    Stop { place: usize },
+pub enum Operand {
+    Register,
+    Tile,
+    Accumulator,
+    Immediate,
+    SignedImmediate,
+}
+
+// A line along a row's text: the place in the line, the next operand's place in the word and what is known of the word.
+#[derive(Clone, Copy)]
+pub struct Progress {
+    pub at: usize,
+    pub scale: u64,
+    pub word: u64,
 }
 
 fn is_digit(b: u8) -> bool
     ensures { result ≡ is_digit b }
 {
-    48 <= b && b <= 57
+    b.is_ascii_digit()
 }
 
 // v and one digit more.
@@ -39,7 +51,7 @@ fn more(v: u64, b: u8) -> u64
     requires { (v ≤ 8191) × (48 ≤ b) × (b ≤ 57) }
     ensures { result ≡ 10 * v + (b - 48) }
 {
-    10 * v + ((b - 48) as u64)
+    10 * v + u64::from(b - b'0')
 }
 
 // Whether v goes on with the digit b.
@@ -47,323 +59,209 @@ fn goes_on(most: u64, v: u64, b: u8) -> bool
     requires { v ≤ 8191 }
     ensures { result ≡ goes_on most v b }
 {
-    if !is_digit(b) {
-        return false;
-    }
-    if v == 0 {
-        return false;
-    }
-    more(v, b) <= most
+    is_digit(b) && v != 0 && more(v, b) <= most
 }
 
 // v, and the digits from `from` on that go on with it.
-fn digits_on(line: &[u8], from: usize, most: u64, v: u64) -> Read
+fn digits_on(line: &[u8], from: usize, most: u64, v: u64) -> Number
     requires { (from ≤ length line.now) × (v ≤ most) × (most ≤ 8191) }
-    ensures { result ≡ got_from from (digits_on most v (drop from line.now)) }
+    ensures { Ok result ≡ got_from from (digits_on most v (drop from line.now)) }
 {
-    let mut n = v;
-    let mut i = from;
-    while i < line.len() {
+    let mut value = v;
+    for i in from..line.len() {
         let b = line[i];
-        if !goes_on(most, n, b) {
-            return Read::Value { number: n, next: i };
+        if !goes_on(most, value, b) {
+            return Number { value, next: i };
         }
-        n = more(n, b);
-        i += 1;
+        value = more(value, b);
     }
-    Read::Value { number: n, next: i }
+    Number {
+        value,
+        next: line.len(),
+    }
 }
 
 // Whether b begins a number from least to most.
 fn is_first(least: u64, most: u64, b: u8) -> bool
     ensures { result ≡ is_first least most b }
 {
-    if !is_digit(b) {
-        return false;
-    }
-    let d = more(0, b);
-    if d < least {
-        return false;
-    }
-    d <= most
+    is_digit(b) && (least..=most).contains(&more(0, b))
 }
 
 // The number at `at`, from least to most.
-fn read_decimal(line: &[u8], at: usize, least: u64, most: u64) -> Read
+fn read_decimal(line: &[u8], at: usize, least: u64, most: u64) -> Result<Number, Fault>
     requires { (at ≤ length line.now) × (most ≤ 8191) }
     ensures { result ≡ got_from at (read_decimal least most (drop at line.now)) }
 {
     if line.len() <= at {
-        return Read::Fault { place: at };
+        return Err(Fault { place: at });
     }
     let b = line[at];
     if !is_first(least, most, b) {
-        return Read::Fault { place: at };
+        return Err(Fault { place: at });
     }
-    digits_on(line, at + 1, most, more(0, b))
+    Ok(digits_on(line, at + 1, most, more(0, b)))
 }
 
 // The signed immediate at `at`, as its field holds it.
-fn read_small(line: &[u8], at: usize) -> Read
+fn read_small(line: &[u8], at: usize) -> Result<Number, Fault>
     requires { at ≤ length line.now }
     ensures { result ≡ got_from at (read_operand small (drop at line.now)) }
 {
     if line.len() <= at {
-        return Read::Fault { place: at };
+        return Err(Fault { place: at });
     }
-    let b = line[at];
-    if b != 45 {
+    if line[at] != b'-' {
         return read_decimal(line, at, 0, 15);
     }
-    match read_decimal(line, at + 1, 1, 16) {
-        Read::Value { number, next } => {
-            return Read::Value {
-                number: 32 - number,
-                next: next,
-            };
-        }
-        Read::Fault { place } => {
-            return Read::Fault { place: place };
-        }
-    }
+    let found = read_decimal(line, at + 1, 1, 16)?;
+    Ok(Number {
+        value: 32 - found.value,
+        next: found.next,
+    })
 }
 
-// The operand at `at` for which this letter stands in a row's text.
-fn read_operand(line: &[u8], at: usize, mark: u8) -> Read
+// The operand at `at`.
+fn read_operand(line: &[u8], at: usize, operand: Operand) -> Result<Number, Fault>
     requires { at ≤ length line.now }
-    ensures { result ≡ got_from at (read_operand (operand_of mark) (drop at line.now)) }
+    ensures { result ≡ got_from at (read_operand (meant_by operand) (drop at line.now)) }
 {
-    if mark == 88 {
-        return read_decimal(line, at, 0, 31);
+    match operand {
+        Operand::Register => read_decimal(line, at, 0, 31),
+        Operand::Tile => read_decimal(line, at, 0, 7),
+        Operand::Accumulator => read_decimal(line, at, 0, 1),
+        Operand::Immediate => read_decimal(line, at, 0, 8191),
+        Operand::SignedImmediate => read_small(line, at),
     }
-    if mark == 84 {
-        return read_decimal(line, at, 0, 7);
-    }
-    if mark == 65 {
-        return read_decimal(line, at, 0, 1);
-    }
-    if mark == 73 {
-        return read_decimal(line, at, 0, 8191);
-    }
-    read_small(line, at)
 }
 
-// Whether a letter of a row's text stands for an operand.
-pub fn is_mark(c: u8) -> bool
-    ensures { result ≡ is_mark c }
+// The operand for which a letter of a row's text stands.
+pub fn operand_in(c: u8) -> Option<Operand>
+    ensures { result ≡ operand_in c }
 {
-    if c == 88 {
-        return true;
+    match c {
+        b'X' => Some(Operand::Register),
+        b'T' => Some(Operand::Tile),
+        b'A' => Some(Operand::Accumulator),
+        b'I' => Some(Operand::Immediate),
+        b'S' => Some(Operand::SignedImmediate),
+        _ => None,
     }
-    if c == 84 {
-        return true;
-    }
-    if c == 65 {
-        return true;
-    }
-    if c == 73 {
-        return true;
-    }
-    c == 83
 }
 
 // The place of the next operand in a word.
 pub fn next_scale(scale: u64) -> u64
     ensures { result ≡ next_scale scale }
 {
-    if scale == 128 {
-        return 32768;
+    match scale {
+        128 => 32768,
+        32768 => 0x10_0000,
+        _ => 0,
     }
-    if scale == 32768 {
-        return 0x10_0000;
-    }
-    0
 }
 
-// One letter of a row's text: the line goes on at `at`, or it does not.
-fn along(line: &[u8], c: u8, at: usize, scale: u64, word: u64) -> Step
-    requires { (at ≤ length line.now) × (scale ≤ 0x10_0000) × (word ≤ 0x4000_0000_0000) × (eqb c 10 ≡ false) }
-    ensures by_index { (t : List ℕ) → row_from (c ∷ t) (drop at line.now) at scale word ≡ go_on t line.now result }
-    ensures bounded { Bounded line.now word result }
+// One letter of a row's text: the line goes on, or it does not.
+fn along(line: &[u8], c: u8, so_far: Progress) -> Result<Progress, Fault>
+    requires { (so_far.at ≤ length line.now) × (so_far.scale ≤ 0x10_0000) × (so_far.word ≤ 0x4000_0000_0000) }
+    ensures by_index { (t : List ℕ) → row_from (c ∷ t) (drop so_far.at line.now) so_far.at so_far.scale so_far.word ≡ go_on t line.now result }
+    ensures bounded { Bounded line.now so_far.word result }
 {
-    if !is_mark(c) {
-        if line.len() <= at {
-            return Step::Stop { place: at };
+    match operand_in(c) {
+        Some(operand) => {
+            let found = read_operand(line, so_far.at, operand)?;
+            Ok(Progress {
+                at: found.next,
+                scale: next_scale(so_far.scale),
+                word: so_far.word + found.value * so_far.scale,
+            })
         }
-        if line[at] != c {
-            return Step::Stop { place: at };
-        }
-        return Step::On {
-            next: at + 1,
-            scale: scale,
-            word: word,
-        };
-    }
-    match read_operand(line, at, c) {
-        Read::Value { number, next } => {
-            return Step::On {
-                next: next,
-                scale: next_scale(scale),
-                word: word + number * scale,
-            };
-        }
-        Read::Fault { place } => {
-            return Step::Stop { place: place };
+        None => {
+            if line.len() <= so_far.at {
+                return Err(Fault { place: so_far.at });
+            }
+            if line[so_far.at] != c {
+                return Err(Fault { place: so_far.at });
+            }
+            Ok(Progress {
+                at: so_far.at + 1,
+                scale: so_far.scale,
+                word: so_far.word,
+            })
         }
     }
 }
 
 // The end of a row's text: the line has to end too.
-fn finished(line: &[u8], at: usize, word: u64) -> Line
+fn finished(line: &[u8], at: usize, word: u64) -> Result<u64, Fault>
     requires { at ≤ length line.now }
     ensures { result ≡ as_line (end_at (drop at line.now) at word) }
 {
     if at < line.len() {
-        return Line::Bad { place: at };
+        Err(Fault { place: at })
+    } else {
+        Ok(word)
     }
-    Line::Word { word: word }
 }
 
-// The line along the row's text that stands at `from` in the table.
-fn read_row(line: &[u8], texts: &[u8], from: usize, base: u64) -> Line
-    requires { (from ≤ length texts.now) × (length texts.now ≤ 4096) × (base < 0x1_0000_0000) }
-    ensures { result ≡ as_line (row_from (drop from texts.now) line.now 0 128 base) }
+// The line along a row's text.
+fn read_row(line: &[u8], text: &[u8], bits: u64) -> Result<u64, Fault>
+    requires { (length text.now ≤ 4096) × (bits < 0x1_0000_0000) }
+    ensures { result ≡ as_line (row_from text.now line.now 0 128 bits) }
 {
-    let mut i = from;
-    let mut at: usize = 0;
-    let mut scale: u64 = 128;
-    let mut word = base;
-    while i < texts.len() {
-        let c = texts[i];
-        if c == 10 {
-            return finished(line, at, word);
-        }
-        match along(line, c, at, scale, word) {
-            Step::On {
-                next,
-                scale: s,
-                word: w,
-            } => {
-                at = next;
-                scale = s;
-                word = w;
-            }
-            Step::Stop { place } => {
-                return Line::Bad { place: place };
-            }
-        }
-        i += 1;
+    let mut so_far = Progress {
+        at: 0,
+        scale: 128,
+        word: bits,
+    };
+    for c in text {
+        so_far = along(line, *c, so_far)?;
     }
-    finished(line, at, word)
+    finished(line, so_far.at, so_far.word)
 }
 
-fn wide(b: u8) -> u64
-    ensures value { result ≡ b }
-    ensures upper_bound { result < 256 }
-{
-    b as u64
-}
-
-// The bits that row k of the table fixes.
-fn fixed_bits(rows: &[u8], k: usize) -> u64
-    requires { (rows.now ≡ table) × (k < 79) }
-    ensures { result ≡ base_of (row_at k) }
-{
-    let at = 32 * k;
-    let low = wide(rows[at]) + 256 * wide(rows[at + 1]);
-    low + 65536 * wide(rows[at + 2]) + 0x100_0000 * wide(rows[at + 3])
-}
-
-// The line along row k of the table.
-fn read_at(line: &[u8], rows: &[u8], k: usize) -> Line
-    requires { (rows.now ≡ table) × (k < 79) }
+// The line along row k.
+fn read_at(line: &[u8], k: usize) -> Result<u64, Fault>
+    requires { k < 79 }
     ensures { result ≡ as_line (read_row (row_at k) line.now) }
 {
-    let base = fixed_bits(rows, k);
-    read_row(line, rows, 32 * k + 4, base)
-}
-
-fn larger(a: usize, b: usize) -> usize
-    ensures { result ≡ max a b }
-{
-    if a < b {
-        return b;
-    }
-    a
+    let row = rows::row_at(k);
+    read_row(line, row.text, u64::from(row.bits))
 }
 
 // The word of a line by all rows, or the last of the places at which they stop.
-fn furthest(line: &[u8], rows: &[u8]) -> Line
-    requires { rows.now ≡ table }
+fn furthest(line: &[u8]) -> Result<u64, Fault>
     ensures { result ≡ as_line (read_line line.now) }
 {
-    let mut best: usize = 0;
-    let mut k: usize = 0;
-    while k < 79 {
-        match read_at(line, rows, k) {
-            Line::Word { word } => {
-                return Line::Word { word: word };
-            }
-            Line::Bad { place } => {
-                best = larger(best, place);
-            }
+    let mut best = 0;
+    for k in 0..79 {
+        match read_at(line, k) {
+            Ok(word) => return Ok(word),
+            Err(fault) => best = fault.place.max(best),
         }
-        k += 1;
     }
-    Line::Bad { place: best }
+    Err(Fault { place: best })
 }
 
 // Whether one of the first n bytes is a space.
 fn has_space(line: &[u8], n: usize) -> bool
     ensures { result ≡ space_in n line.now }
 {
-    let mut i: usize = 0;
-    while i < n {
-        if line.len() <= i {
-            return false;
-        }
-        if line[i] == 32 {
-            return true;
-        }
-        i += 1;
-    }
-    false
+    line.iter().take(n).any(|b| *b == b' ')
 }
 
-// A row, by six letters of the line: that of its name, if it has a row's name.
-fn guess(line: &[u8], index: &[u8]) -> usize
-    requires { length index.now ≡ 512 }
-    ensures { result < 79 }
-{
-    if line.len() < 10 {
-        return 0;
-    }
-    let first = 67 * wide(line[1]) + 74 * wide(line[2]) + 9 * wide(line[4]);
-    let last = 19 * wide(line[5]) + 110 * wide(line[8]) + 41 * wide(line[9]);
-    let row = wide(index[256 + ((first + last) % 256) as usize]);
-    if row < 79 {
-        return row as usize;
-    }
-    0
-}
-
-// The word of a line, by the table of the rows and the index to it. Only a line without a row's name is held to each row.
-pub fn read_line(line: &[u8], rows: &[u8], index: &[u8]) -> Line
-    requires { (rows.now ≡ table) × (length index.now ≡ 512) }
+// The word of a line. Only a line without a row's name is held to each row.
+pub fn read_line(line: &[u8]) -> Result<u64, Fault>
     ensures { result ≡ as_line (read_line line.now) }
 {
-    let k = guess(line, index);
-    match read_at(line, rows, k) {
-        Line::Word { word } => {
-            return Line::Word { word: word };
-        }
-        Line::Bad { place } => {
-            if has_space(line, place) {
-                return Line::Bad { place: place };
+    match read_at(line, rows::guess(line)) {
+        Ok(word) => Ok(word),
+        Err(fault) => {
+            if has_space(line, fault.place) {
+                return Err(fault);
             }
+            furthest(line)
         }
     }
-    furthest(line, rows)
 }
 
 // The line feed that ends the line at `from` of a text.
@@ -371,12 +269,10 @@ pub fn line_end(text: &[u8], from: usize) -> usize
     requires { from ≤ length text.now }
     ensures { result ≡ from + feed_at (drop from text.now) }
 {
-    let mut i = from;
-    while i < text.len() {
-        if text[i] == 10 {
+    for i in from..text.len() {
+        if text[i] == b'\n' {
             return i;
         }
-        i += 1;
     }
-    i
+    text.len()
 }

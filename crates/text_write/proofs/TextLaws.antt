@@ -1,17 +1,16 @@
 -- Lines along the table.
 use mathlib.Core.Path.{◌≡◌, refl, sym, ap, ap₂, ◌∙◌, subst}
-use mathlib.Core.Bool.{Bool, true, false, cond, not, ◌&&◌}
+use mathlib.Core.Bool.{Bool, true, false, cond, ◌&&◌}
 use mathlib.Core.List.{List, [], ◌∷◌, ◌++◌, map}
 use mathlib.Core.Option.{Option, none, some}
-use Prim.Native.String.{String}
-use Prim.Native.Nat.{ℕ, zero, suc, ◌+◌, ◌-◌, ◌*◌, ◌≤◌, ◌<◌}
+use Prim.Native.Nat.{ℕ, zero, suc, ◌+◌, ◌-◌, ◌≤◌, ◌<◌}
 use native.Mathlib.Numerals.{add-one}
 use native.Mathlib.Omega.{arith}
 use lib.Dec.{ltb, eqb}
 use lib.ListN.{length, drop, get_or, drop_of_length-le}
 use lib.Seq.{drop-cons}
-use borrow.Author.Tests.{eq-eqb, ne_eqb, eqb-true, not-true, lt-ltb, le-ltb, ltb-true, leb-true, leb-false}
-use Rattle.machine.specs.Listing.{bits, field7, field15, field20, immediate13, Row, has, listing}
+use borrow.Author.Tests.{eqb-true, lt-ltb, le-ltb, ltb-true, leb-true, leb-false}
+use Rattle.machine.specs.Listing.{bits, Row, has, listing}
 use Rattle.machine.proofs.TestLaws.{and_left, and_right, false-true}
 use Rattle.text_lines.specs.Lines.{decimal}
 use Rattle.text_assembly.specs.Bytes.{bytes}
@@ -20,10 +19,10 @@ use Rattle.text_assembly.specs.Theorems.{has_line}
 use Rattle.text_assembly.proofs.LineLaws.{some_same, none-some}
 use Rattle.unit_table.specs.Table.{number_in, entry_of, rest_right}
 use Rattle.unit_table.proofs.TableLaws.{number_is}
-use Rattle.text_read.specs.Table.{table, no_row, row_at}
+use Rattle.text_read.specs.Table.{no_row, row_at}
 use Rattle.text_read.specs.Parts.{next_scale}
-use Rattle.text_read.proofs.RowLaws.{no_feed, rows_are, row-apt, after, text-stands}
-use Rattle.text_write.specs.Parts.{narrow_by, field_by, is_minus, piece_text, scale_after, text_from, line_text, finds}
+use Rattle.text_read.proofs.RowLaws.{rows_are}
+use Rattle.text_write.specs.Parts.{field_by, is_minus, piece_text, scale_after, text_from, line_text, finds}
 
 -- ---- the place of the i-th operand
 
@@ -52,28 +51,22 @@ field-at (suc (suc (suc i))) small w = refl
 
 -- ---- a row
 
-text-is : (t rest : List ℕ) → no_feed t ≡ true → (i w : ℕ) → text_from (t ++ (10 ∷ rest)) (scale_at i) w ≡ fill (map piece_of t) (fields_from i (operands_in (map piece_of t)) w)
-text-is [] rest h i w = refl
-text-is (c ∷ t) rest h i w = rw feed (go (is_mark c) (λ i. text-is t rest (and_right (not (eqb c 10)) (no_feed t) h) i w))
+text-is : (t : List ℕ) (i w : ℕ) → text_from t (scale_at i) w ≡ fill (map piece_of t) (fields_from i (operands_in (map piece_of t)) w)
+text-is [] i w = refl
+text-is (c ∷ t) i w = go (is_mark c) (λ i. text-is t i w)
   where
-    feed : eqb c 10 ≡ false
-    feed = not-true (eqb c 10) (and_left (not (eqb c 10)) (no_feed t) h)
-
     ps : List Piece
     ps = map piece_of t
 
-    go : (m : Bool) → ((i : ℕ) → text_from (t ++ (10 ∷ rest)) (scale_at i) w ≡ fill ps (fields_from i (operands_in ps) w))
-        → cond m (shown (operand_of c) (field_by (scale_at i) (operand_of c) w)) (c ∷ []) ++ text_from (t ++ (10 ∷ rest)) (cond m (next_scale (scale_at i)) (scale_at i)) w
+    go : (m : Bool) → ((i : ℕ) → text_from t (scale_at i) w ≡ fill ps (fields_from i (operands_in ps) w))
+        → cond m (shown (operand_of c) (field_by (scale_at i) (operand_of c) w)) (c ∷ []) ++ text_from t (cond m (next_scale (scale_at i)) (scale_at i)) w
         ≡ fill (cond m (operand (operand_of c)) (letter c) ∷ ps) (fields_from i (operands_in (cond m (operand (operand_of c)) (letter c) ∷ ps)) w)
-    go true ih = ap₂ (λ (x : ℕ) (y : List ℕ). shown (operand_of c) x ++ y) (field-at i (operand_of c) w) (ap (λ (z : ℕ). text_from (t ++ (10 ∷ rest)) z w) (next-at i) ∙ ih (suc i))
+    go true ih = ap₂ (λ (x : ℕ) (y : List ℕ). shown (operand_of c) x ++ y) (field-at i (operand_of c) w) (ap (λ (z : ℕ). text_from t z w) (next-at i) ∙ ih (suc i))
     go false ih = ap (λ (z : List ℕ). c ∷ z) (ih i)
 
-row-text : (t : String) (rest : List ℕ) → no_feed (bytes t) ≡ true → (w : ℕ) → text_from (bytes t ++ (10 ∷ rest)) 128 w ≡ fill (pieces t) (fields_of (pieces t) w)
-row-text t rest h w = text-is (bytes t) rest h 0 w
-
--- row k of the table
-pub text_at : (t : List ℕ) → t ≡ table → (k : ℕ) → k < 79 → (w : ℕ) → text_from (drop (32 * k + 4) t) 128 w ≡ fill (pieces (row_at k).text) (fields_of (pieces (row_at k).text) w)
-text_at t e k l w = ap (λ (z : List ℕ). text_from z 128 w) (text-stands t e k l) ∙ row-text (row_at k).text (after t e k l) (row-apt t e k l).own w
+-- row k
+pub row-text : (k w : ℕ) → text_from (bytes (row_at k).text) 128 w ≡ fill (pieces (row_at k).text) (fields_of (pieces (row_at k).text) w)
+row-text k w = text-is (bytes (row_at k).text) 0 w
 
 -- ---- the row of a word
 
@@ -168,40 +161,9 @@ plus-text (below n) v h = refl
 plus-text wide v h = refl
 plus-text small v h = rw (lt-ltb v 16 (leb-false 16 v h))
 
-pub narrow-bound : (scale w : ℕ) → narrow_by scale w < 32
-narrow-bound scale w = go (eqb scale 128) (eqb scale 32768)
-  where
-    go : (a b : Bool) → cond a (field7 w) (cond b (field15 w) (field20 w)) < 32
-    go true b = omega arith
-    go false true = omega arith
-    go false false = omega arith
-
-pub field_bound : (scale : ℕ) (o : Operand) (w : ℕ) → field_by scale o w ≤ 8191
-field_bound scale (below n) w = omega (arith, narrow-bound scale w)
-field_bound scale wide w = omega arith
-field_bound scale small w = omega (arith, narrow-bound scale w)
-
-pub narrow-mark : (mark scale w : ℕ) → ¬ (mark ≡ 73) → narrow_by scale w ≡ field_by scale (operand_of mark) w
-narrow-mark mark scale w h = rw (ne_eqb mark 73 h) (go (eqb mark 88) (eqb mark 84) (eqb mark 65))
-  where
-    go : (a b d : Bool) → narrow_by scale w ≡ field_by scale (cond a (below 32) (cond b (below 8) (cond d (below 2) (cond false wide small)))) w
-    go true b d = refl
-    go false true d = refl
-    go false false true = refl
-    go false false false = refl
-
-pub wide-mark : (mark scale w : ℕ) → mark ≡ 73 → immediate13 w ≡ field_by scale (operand_of mark) w
-wide-mark mark scale w e = ap (λ (z : ℕ). field_by scale (operand_of z) w) (sym e)
-
-pub by-operand : (f : Operand → Bool) (o p : Operand) → o ≡ p → f p ≡ f o
-by-operand f o p e = ap f (sym e)
-
 module _ (t : List ℕ) (i scale w : ℕ) where
-  pub text-feed : i < length t → get_or t i 0 ≡ 10 → text_from (drop i t) scale w ≡ []
-  text-feed h e = rw (drop-cons t i 0 h, eq-eqb (get_or t i 0) 10 e)
-
   pub text-end : length t ≤ i → text_from (drop i t) scale w ≡ []
   text-end h = rw (drop_of_length-le t h)
 
-  pub text-on : i < length t → ¬ (get_or t i 0 ≡ 10) → text_from (drop i t) scale w ≡ piece_text (get_or t i 0) scale w ++ text_from (drop (i + 1) t) (scale_after (get_or t i 0) scale) w
-  text-on h e = rw (drop-cons t i 0 h, ne_eqb (get_or t i 0) 10 e) (ap (λ (z : ℕ). piece_text (get_or t i 0) scale w ++ text_from (drop z t) (scale_after (get_or t i 0) scale) w) (sym (add-one i)))
+  pub text-on : i < length t → text_from (drop i t) scale w ≡ piece_text (get_or t i 0) scale w ++ text_from (drop (i + 1) t) (scale_after (get_or t i 0) scale) w
+  text-on h = rw (drop-cons t i 0 h) (ap (λ (z : ℕ). piece_text (get_or t i 0) scale w ++ text_from (drop z t) (scale_after (get_or t i 0) scale) w) (sym (add-one i)))

@@ -27,10 +27,10 @@ piece_text c scale word = cond (is_mark c) (shown (operand_of c) (field_by scale
 abbrev pub scale_after : (c scale : ℕ) → ℕ
 scale_after c scale = cond (is_mark c) (next_scale scale) scale
 
--- the rest of a row's text, with the fields of a word
+-- a row's text, with the fields of a word
 abbrev pub text_from : List ℕ → (scale word : ℕ) → List ℕ
 text_from [] scale word = []
-text_from (c ∷ t) scale word = cond (eqb c 10) [] (piece_text c scale word ++ text_from t (scale_after c scale) word)
+text_from (c ∷ t) scale word = piece_text c scale word ++ text_from t (scale_after c scale) word
 
 -- what is written of a line
 abbrev pub line_text : Option (List ℕ) → List ℕ

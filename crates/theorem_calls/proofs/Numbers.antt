@@ -1,10 +1,10 @@
 -- Numbers of 64 bits stay such: those of a machine over steps, and those of a run over turns. So what is written to a block is read back.
 use Rattle.numbers.proofs.Kit.{◌≡◌, refl, sym, ◌∙◌, subst, Bool, true, false, cond, List, [], ◌∷◌, ◌++◌, map, Option, none, some, ℕ, zero, suc, ◌+◌, ◌/◌}
-use Rattle.numbers.proofs.Kit.{◌^◌, ◌≤◌, ◌<◌, div-le_self, arith, ltb, eqb, length, get_or, eqb-true, ltb-true, leb-true}
+use Rattle.numbers.proofs.Kit.{◌^◌, ◌≤◌, ◌<◌, div-le_self, arith, ltb, eqb, length, get_or, eqb-true, ltb-true, leb-true, Err}
 use Rattle.numbers.specs.Tile.{get_le}
 use Rattle.numbers.proofs.TileLaws.{le-lt}
 use Rattle.machine.specs.declared.Machine.{Machine}
-use Rattle.machine.specs.declared.Answer.TheVariants.{BadArguments}
+use Rattle.machine.specs.declared.Refusal.TheVariants.{BadArguments}
 use Rattle.machine.specs.Tests.{every, is_in}
 use Rattle.machine.specs.Answers.{reply, done, verdict}
 use Rattle.machine.specs.Geometry.{elens, Bench, Parameters, parameters}
@@ -92,8 +92,8 @@ step_words word xs B w = go (sound_bench B) refl
         let C : Bench = (step_by chosen word xs B).bench in
         sound-words C.machine C.registers C.marks (sound-is C.machine C.registers C.marks (bench-sound C (step-sound chosen chosen-grants word xs B e)))
     go false e =
-        let r : verdict (step_checks (parameters chosen B.machine) (decode word) xs B) ≡ BadArguments = rw e in
-        subst (λ (o : Outcome). Words o.bench.machine) (sym (step-refused chosen word xs B BadArguments refl r)) w
+        let r : verdict (step_checks (parameters chosen B.machine) (decode word) xs B) ≡ (Err BadArguments) = rw e in
+        subst (λ (o : Outcome). Words o.bench.machine) (sym (step-refused chosen word xs B (Err BadArguments) refl r)) w
 
 pub step-with-words : (word : ℕ) (xs : List ℕ) (W : Vectors) (B : Bench) → Words B.machine → Words (step_with chosen word xs W B).bench.machine
 unfolding step_with
@@ -105,15 +105,15 @@ step-with-words word xs W B w = go (sound_bench B) refl
     C : Bench
     C = (step_with chosen word xs W B).bench
 
-    stays : (t : Bool) → Words (cond t (beside (vectors_in W M (decode word) xs B) (record { answer = reply BadArguments; bench = B; scalars = xs })) (beside W.file (Step.refused_in W M (decode word) xs B BadArguments))).bench.machine
+    stays : (t : Bool) → Words (cond t (beside (vectors_in W M (decode word) xs B) (record { answer = reply (Err BadArguments); bench = B; scalars = xs })) (beside W.file (Step.refused_in W M (decode word) xs B (Err BadArguments)))).bench.machine
     stays true = w
     stays false = w
 
     go : (t : Bool) → sound_bench B ≡ t → Words (step_with chosen word xs W B).bench.machine
     go true e = sound-words C.machine C.registers C.marks (sound-is C.machine C.registers C.marks (bench-sound C (step-keeps-sound chosen chosen-grants word xs W B e)))
     go false e =
-        let r : outcome_in W M (decode word) xs B ≡ record { answer = reply BadArguments; bench = B; scalars = xs } = rw e in
-        subst (λ (o : Outcome). Words (cond (vectors_fit W) (beside (vectors_in W M (decode word) xs B) o) (beside W.file (Step.refused_in W M (decode word) xs B BadArguments))).bench.machine) (sym r) (stays (vectors_fit W))
+        let r : outcome_in W M (decode word) xs B ≡ record { answer = reply (Err BadArguments); bench = B; scalars = xs } = rw e in
+        subst (λ (o : Outcome). Words (cond (vectors_fit W) (beside (vectors_in W M (decode word) xs B) o) (beside W.file (Step.refused_in W M (decode word) xs B (Err BadArguments)))).bench.machine) (sym r) (stays (vectors_fit W))
 
 -- ---- a run
 

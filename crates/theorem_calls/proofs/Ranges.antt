@@ -1,11 +1,10 @@
 -- Which ranges the machine's block holds after a call, and after one call after another.
 use Rattle.numbers.proofs.Kit.{◌≡◌, refl, sym, ap, ap₂, ◌∙◌, subst, Bool, true, false, cond, List, [], ◌∷◌, ◌++◌, append_assoc, append-nil, ℕ, ◌%◌, ◌^◌}
-use Rattle.numbers.proofs.Kit.{eqb, ltb, length, eqb-true, eq-eqb}
+use Rattle.numbers.proofs.Kit.{eqb, ltb, length, eqb-true, eq-eqb, Err}
 use Rattle.machine.specs.declared.Machine.{Machine}
-use Rattle.machine.specs.declared.Answer.{Answer}
-use Rattle.machine.specs.declared.Answer.TheVariants.{Done, BadArguments, TooManySeals}
+use Rattle.machine.specs.declared.Refusal.TheVariants.{BadArguments, TooManySeals}
 use Rattle.machine.specs.Tests.{every}
-use Rattle.machine.specs.Answers.{reply, done, is_done, verdict}
+use Rattle.machine.specs.Answers.{reply, done, is_done, verdict, Answer, Done}
 use Rattle.machine.specs.Geometry.{Range, range, Bench, bench_of}
 use Rattle.machine.specs.Setting.{chosen}
 use Rattle.machine.specs.Starting.{seal_ends, most_seals}
@@ -53,14 +52,14 @@ module _ (from size : ℕ) (b : Buffers) where
   abbrev out : Bool → Called
   out t =
       after_seal b (cond t (sealed_out (packed (reply (verdict (seal_checks from size B₀)))) (block (verdict (seal_checks from size B₀))) b.registers b.marks)
-      (sealed_out (packed (reply BadArguments)) b.machine b.registers b.marks))
+      (sealed_out (packed (reply (Err BadArguments))) b.machine b.registers b.marks))
 
   seal-out : called (Call.seal from size) b ≡ out (eqb (length b.machine) machine_bytes)
   unfolding host_seal seal_block add_seal
   seal-out = refl
 
   by_tests : (s e f : Bool) → sound_bench B ≡ s → seal_ends from size ≡ e → ltb (length B.seals) most_seals ≡ f → length b.machine ≡ machine_bytes
-      → let a : Answer = cond s (cond e (cond f Done TooManySeals) BadArguments) BadArguments in
+      → let a : Answer = cond s (cond e (cond f Done (Err TooManySeals)) (Err BadArguments)) (Err BadArguments) in
       (packed (reply a) ≡ (reply a).number)
       × (bench_of (machine_of (block a)) (seals_in (block a)) b.registers b.marks b.memory ≡ cond (is_done a) (with_seal from size B) B)
   unfolding add_seal
@@ -81,7 +80,7 @@ unfolding add_seal
 seal-call-seals from size b = go (eqb (length b.machine) machine_bytes) refl
   where
     verdict_of : Bool → Answer
-    verdict_of s = cond s (cond (seal_ends from size) (cond (ltb (length (seals_in b.machine)) most_seals) Done TooManySeals) BadArguments) BadArguments
+    verdict_of s = cond s (cond (seal_ends from size) (cond (ltb (length (seals_in b.machine)) most_seals) Done (Err TooManySeals)) (Err BadArguments)) (Err BadArguments)
 
     go : (t : Bool) → eqb (length b.machine) machine_bytes ≡ t
         → ((called (Call.seal from size) b).result ≡ (reply (verdict_of (sound_bench (bench_in b)))).number)
@@ -113,7 +112,7 @@ module _ (b : Buffers) where
       left : Bool → Called
       left t =
           after_step b (cond t (shown_step b.machine (step_block word b.scalars (vectors_of b.file group) (bench_in b)))
-          (stepped_out (packed (reply BadArguments)) b.machine b.registers b.marks b.scalars b.memory b.file))
+          (stepped_out (packed (reply (Err BadArguments))) b.machine b.registers b.marks b.scalars b.memory b.file))
 
       go : (t : Bool) → seals_in (left t).after.machine ≡ seals_in b.machine ++ []
       go true = put (step_block word b.scalars (vectors_of b.file group) (bench_in b)).bench.machine
@@ -141,7 +140,7 @@ module _ (b : Buffers) where
       left : Bool → Called
       left t =
           after_run_start b (cond t (shown_run_start b.machine b.run (start_run chosen P (bench_in b)))
-          (run_started_out (packed (reply BadArguments)) b.machine b.registers b.marks b.memory b.run))
+          (run_started_out (packed (reply (Err BadArguments))) b.machine b.registers b.marks b.memory b.run))
 
       go : (t : Bool) → seals_in (left t).after.machine ≡ seals_in b.machine ++ []
       go true = stays
@@ -154,7 +153,7 @@ module _ (b : Buffers) where
       left : Bool → Called
       left t =
           after_turn b (cond t (shown_turn b.run b.machine (turn_outcome chosen (held_running b.run b.machine b.registers b.marks b.memory)))
-          (turned_out (packed (reply BadArguments)) b.run b.machine b.registers b.marks b.memory))
+          (turned_out (packed (reply (Err BadArguments))) b.run b.machine b.registers b.marks b.memory))
 
       go : (t : Bool) → seals_in (left t).after.machine ≡ seals_in b.machine ++ []
       go true = put (turn_outcome chosen (held_running b.run b.machine b.registers b.marks b.memory)).after.bench.machine
@@ -180,7 +179,7 @@ module _ (b : Buffers) where
       left : Bool → Called
       left t =
           after_run b (cond t (shown_run b.machine b.steps (whole chosen P (bench_in b)))
-          (ran_out (packed (reply BadArguments)) b.machine b.registers b.marks b.memory b.steps))
+          (ran_out (packed (reply (Err BadArguments))) b.machine b.registers b.marks b.memory b.steps))
 
       shown : (u : Bool) → seals_in (cond u (put_machine (whole chosen P (bench_in b)).bench.machine b.machine) b.machine) ≡ seals_in b.machine ++ []
       shown true = put (whole chosen P (bench_in b)).bench.machine

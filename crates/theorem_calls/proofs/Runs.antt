@@ -1,11 +1,10 @@
 -- Demand 3 over calls: bodlarina_run_start, bodlarina_run_turn and bodlarina_run_next; and bodlarina_run as such calls.
 use Rattle.numbers.proofs.Kit.{◌≡◌, refl, sym, ap, ap₂, ◌∙◌, subst, Bool, true, false, cond, false≢true, List, [], ◌∷◌, Option, none, some, ℕ, suc, arith}
-use Rattle.numbers.proofs.Kit.{eqb, length, eqb-true, eq-eqb, ne_eqb}
-use Rattle.machine.specs.declared.Answer.{Answer}
-use Rattle.machine.specs.declared.Answer.TheVariants.{Done, OutsideMemory, BadArguments, Overlap}
+use Rattle.numbers.proofs.Kit.{eqb, length, eqb-true, eq-eqb, ne_eqb, Err}
+use Rattle.machine.specs.declared.Refusal.TheVariants.{OutsideMemory, BadArguments, Overlap}
 use Rattle.machine.specs.Tests.{every}
 use Rattle.machine.specs.declared.Reply.{Reply}
-use Rattle.machine.specs.Answers.{reply, number, done, verdict, ◌otherwise◌}
+use Rattle.machine.specs.Answers.{reply, number, done, verdict, ◌otherwise◌, Answer, Done}
 use Rattle.machine.specs.Geometry.{sealed, Bench}
 use Rattle.machine.specs.Setting.{chosen}
 use Rattle.machine.specs.Faults.{sound_bench}
@@ -57,7 +56,7 @@ module _ (P : Plan) (b : Buffers) where
   abbrev start_on : Bool → Called
   start_on t =
       after_run_start b (cond t (shown_run_start b.machine b.run s)
-      (run_started_out (packed (reply BadArguments)) b.machine b.registers b.marks b.memory b.run))
+      (run_started_out (packed (reply (Err BadArguments))) b.machine b.registers b.marks b.memory b.run))
 
   start-call : (t : Bool) → every tests ≡ t → called (Call.run_start P) b ≡ start_on t
   unfolding host_run_start
@@ -129,14 +128,14 @@ next_on b a = after_next b (shown_next b.run b.step (asked a))
 next-call : (b : Buffers) → every (run_fit b.run ∷ eqb (length b.step) 24 ∷ []) ≡ true → called Call.run_next b ≡ next_on b (ask chosen (run_of b.run))
 unfolding host_next
 next-call b h =
-    ap (λ (t : Bool). after_next b (cond t (shown_next b.run b.step (asked (ask chosen (run_of b.run)))) (next_out (packed (reply BadArguments)) b.run b.step))) h
+    ap (λ (t : Bool). after_next b (cond t (shown_next b.run b.step (asked (ask chosen (run_of b.run)))) (next_out (packed (reply (Err BadArguments))) b.run b.step))) h
 
 shown-done : (b : Buffers) (a : Ask) (h : Handed) (R : Run) → a.answer ≡ reply Done → Asks a 0 (some h) R → next_on b a ≡ left 0 (handing h (put_run R b.run) b)
 shown-done b a h R d k =
     ap₂ (λ (v : Reply) (g : Option Handed). next_on b (record { answer = v; handed = g; run = a.run })) d k.hands_out
     ∙ ap (λ (S : Run). left 0 (handing h (put_run S b.run) b)) k.leaves
 
-shown-refused : (b : Buffers) (a : Ask) → a.answer ≡ reply BadArguments → next_on b a ≡ left 8 b
+shown-refused : (b : Buffers) (a : Ask) → a.answer ≡ reply (Err BadArguments) → next_on b a ≡ left 8 b
 shown-refused b a e = ap (λ (v : Reply). next_on b (record { answer = v; handed = a.handed; run = a.run })) e
 
 -- ---- answers of asking and of turns
@@ -145,17 +144,17 @@ some-none : (h : Handed) → some h ≡ none → ⊥
 some-none h e = let z : ◌≡◌ {A = ℕ} 0 1 = cc in omega arith
 
 -- nothing is handed out
-ask-none : (R : Run) → (ask chosen R).handed ≡ none → (ask chosen R).answer ≡ reply BadArguments
+ask-none : (R : Run) → (ask chosen R).handed ≡ none → (ask chosen R).answer ≡ reply (Err BadArguments)
 ask-none R = go (word_handed_out chosen R)
   where
-    go : (o : Option Op) → (ask_with chosen R o).handed ≡ none → (ask_with chosen R o).answer ≡ reply BadArguments
+    go : (o : Option Op) → (ask_with chosen R o).handed ≡ none → (ask_with chosen R o).answer ≡ reply (Err BadArguments)
     go none e = refl
     go (some o) e = absurd (some-none (handed_for R.plan o) e)
 
-turn-none : (r : Running) → (turn chosen r).handed ≡ none → (turn chosen r).answer ≡ reply BadArguments
+turn-none : (r : Running) → (turn chosen r).handed ≡ none → (turn chosen r).answer ≡ reply (Err BadArguments)
 turn-none r = go (word_handed_out chosen r.run)
   where
-    go : (o : Option Op) → (turn_with chosen r o).handed ≡ none → (turn_with chosen r o).answer ≡ reply BadArguments
+    go : (o : Option Op) → (turn_with chosen r o).handed ≡ none → (turn_with chosen r o).answer ≡ reply (Err BadArguments)
     go none e = refl
     go (some o) e = absurd (some-none (handed_for r.run.plan o) e)
 
@@ -304,7 +303,7 @@ module _ (P : Plan) (b : Buffers) where
   abbrev run_on : Bool → Called
   run_on t =
       after_run b (cond t (shown_run b.machine b.steps w)
-      (ran_out (packed (reply BadArguments)) b.machine b.registers b.marks b.memory b.steps))
+      (ran_out (packed (reply (Err BadArguments))) b.machine b.registers b.marks b.memory b.steps))
 
   run_call : (t : Bool) → every (eqb (length b.machine) machine_bytes ∷ eqb (length b.steps) 8 ∷ []) ≡ t → called (Call.run P) b ≡ run_on t
   unfolding host_run

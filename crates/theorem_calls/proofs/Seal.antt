@@ -1,11 +1,11 @@
 -- Demand 2 over calls: each leaves the seal in the machine's block and the sealed bytes of memory.
+use Rattle.std.specs.Prelude.{Err}
 use Rattle.numbers.proofs.Kit.{◌≡◌, refl, sym, ap, ◌∙◌, subst, Bool, true, false, cond, ◌||◌, ◌&&◌, false≢true, List, [], ◌∷◌, ◌++◌, ℕ, arith, eqb, leb}
-use Rattle.numbers.proofs.Kit.{ltb, length, get_or, replicate, eqb-true, eqb-false, eq-eqb}
+use Rattle.numbers.proofs.Kit.{ltb, length, get_or, replicate, eqb-true, eqb-false, eq-eqb, Err}
 use Rattle.machine.specs.declared.Machine.{Machine}
-use Rattle.machine.specs.declared.Answer.{Answer}
-use Rattle.machine.specs.declared.Answer.TheVariants.{Done, BadArguments, TooManySeals}
+use Rattle.machine.specs.declared.Refusal.TheVariants.{BadArguments, TooManySeals}
 use Rattle.machine.specs.Tests.{all, every}
-use Rattle.machine.specs.Answers.{reply, done, is_done, verdict}
+use Rattle.machine.specs.Answers.{reply, done, is_done, verdict, Answer, Done}
 use Rattle.machine.specs.Geometry.{Range, range, Bench, bench_of}
 use Rattle.machine.specs.Setting.{chosen}
 use Rattle.machine.specs.Starting.{seal_ends, most_seals, ranges, startable, start_checks, StartOutcome, started_as, start_machine, fresh_machine, no_machine}
@@ -40,9 +40,9 @@ use Rattle.c_step.proofs.Refusal.{start-refusal}
 use Rattle.c_step.specs.BenchCalls.{HostStarted, started_out, shown_start, host_start, stepped_out, shown_step, host_step, sealed_out, host_seal}
 use Rattle.c_run.specs.RunCalls.{run_started_out, shown_run_start, host_run_start}
 use Rattle.c_turn.specs.TurnCalls.{turn_blocks, held_running, turned_out, shown_turn, host_turn, shown_turns, host_turns, ran_out, shown_run, host_run}
-use Rattle.image.specs.declared.Imaged.{Imaged}
-use Rattle.image.specs.declared.Imaged.TheVariants as Image
-use Rattle.image.specs.Answers.{ImageReply, image_reply}
+use Rattle.image.specs.declared.ImageError.{ImageError}
+use Rattle.image.specs.declared.ImageError.TheVariants as Image
+use Rattle.image.specs.Answers.{ImageReply, image_reply, image_done}
 use Rattle.numbers_format.specs.Numbers as Images
 use Rattle.numbers_format.specs.Parser.{Parsed, parse}
 use Rattle.numbers_format.specs.Parser.Parsed.{whole, stopped}
@@ -51,7 +51,7 @@ use Rattle.image.specs.Images.{machine_from}
 use Rattle.image.specs.ImageFormat.{Described, image_format}
 use Rattle.image.proofs.Images.{read-makes}
 use Rattle.image_read.specs.Blocks.{BlockOutcome, restored_as, block_refused, into_block, read_block}
-use Rattle.image.specs.Reading.{check_image, ReadOutcome, restored, cells_in, fitted, read_as, read_image}
+use Rattle.image.specs.Reading.{check_image, ReadOutcome, restored, cells_in, fitted, read_as, read_image, not_restored}
 use Rattle.c_image.specs.ImageCalls.{packed_reply, shown_read, host_image_read}
 use Rattle.theorem_calls.specs.Calls.{Buffers, buffers, Call, Called, after_start, after_step, after_seal, after_run_start, after_turn, after_run, after_read, called}
 use Rattle.theorem_calls.specs.Composed.{after_calls, bench_in, SealedIn, SparesSeal, EachSparesSeal, SealHoldsOverCalls, SealHoldsFromStartCall, SealHoldsFromReadCall, StartCallHolds, ReadCallHolds}
@@ -97,8 +97,8 @@ was-started rlen mlen elen rule seals b =
 
     out : Bool → Bool → Bool → Called
     out t u v =
-        after_start b (cond t (shown_start b.machine (started (cond u (cond v Done TooManySeals) BadArguments)))
-        (started_out (packed (reply BadArguments)) b.machine b.registers b.marks))
+        after_start b (cond t (shown_start b.machine (started (cond u (cond v Done (Err TooManySeals)) (Err BadArguments))))
+        (started_out (packed (reply (Err BadArguments))) b.machine b.registers b.marks))
 
     -- what is started is not at fault
     sound-start : startable rlen mlen elen rule seals b.registers b.marks ≡ true → leb (length (ranges seals)) most_seals ≡ true
@@ -168,7 +168,7 @@ module _ (b : Buffers) (w : Words (machine_of b.machine)) where
       out : Bool → Called
       out t =
           after_step b (cond t (shown_step b.machine (step_block word b.scalars (vectors_of b.file group) (bench_in b)))
-          (stepped_out (packed (reply BadArguments)) b.machine b.registers b.marks b.scalars b.memory b.file))
+          (stepped_out (packed (reply (Err BadArguments))) b.machine b.registers b.marks b.scalars b.memory b.file))
 
       go : (t : Bool) → every (eqb (length b.machine) machine_bytes ∷ eqb (length b.scalars) 256 ∷ []) ≡ t → SafeAfter (out t)
       go true h =
@@ -190,7 +190,7 @@ module _ (b : Buffers) (w : Words (machine_of b.machine)) where
       out : Bool → Called
       out t =
           after_seal b (cond t (sealed_out (packed (reply (verdict (seal_checks start size B)))) (block (verdict (seal_checks start size B))) b.registers b.marks)
-          (sealed_out (packed (reply BadArguments)) b.machine b.registers b.marks))
+          (sealed_out (packed (reply (Err BadArguments))) b.machine b.registers b.marks))
 
       more : List Range
       more = seals_in b.machine ++ (range start size ∷ [])
@@ -201,7 +201,7 @@ module _ (b : Buffers) (w : Words (machine_of b.machine)) where
           subst (λ (a : Answer). sound_bench (cond (is_done a) (with_seal start size B) B) ≡ true) v (seal-keeps-sound start size B hs)
 
       by : (s e f : Bool) → sound_bench B ≡ s → seal_ends start size ≡ e → ltb (length B.seals) most_seals ≡ f → length b.machine ≡ machine_bytes
-          → Safe b (block (cond s (cond e (cond f Done TooManySeals) BadArguments) BadArguments)) b.memory
+          → Safe b (block (cond s (cond e (cond f Done (Err TooManySeals)) (Err BadArguments)) (Err BadArguments))) b.memory
       by true true true hs he hf l =
           let fit : seals_fit more ≡ true = bench-seals (with_seal start size B) (kept hs he hf) in
           record {
@@ -224,7 +224,7 @@ module _ (b : Buffers) (w : Words (machine_of b.machine)) where
       out : Bool → Called
       out t =
           after_run_start b (cond t (shown_run_start b.machine b.run (start_run chosen P (bench_in b)))
-          (run_started_out (packed (reply BadArguments)) b.machine b.registers b.marks b.memory b.run))
+          (run_started_out (packed (reply (Err BadArguments))) b.machine b.registers b.marks b.memory b.run))
 
       go : (t : Bool) → SafeAfter (out t)
       go true = stays (start_run chosen P (bench_in b)).bench.memory (λ q x. ap (λ (C : Bench). get_or C.memory q 0) (run-start-changes-nothing chosen P (bench_in b)))
@@ -244,7 +244,7 @@ module _ (b : Buffers) (w : Words (machine_of b.machine)) where
       out : Bool → Called
       out t =
           after_turn b (cond t (shown_turn b.run b.machine (turn_outcome chosen r))
-          (turned_out (packed (reply BadArguments)) b.run b.machine b.registers b.marks b.memory))
+          (turned_out (packed (reply (Err BadArguments))) b.run b.machine b.registers b.marks b.memory))
 
       go : (t : Bool) → turn_blocks b.run b.machine ≡ t → SafeAfter (out t)
       go true h =
@@ -285,7 +285,7 @@ module _ (b : Buffers) (w : Words (machine_of b.machine)) where
       out : Bool → Called
       out t =
           after_run b (cond t (shown_run b.machine b.steps (Whole.whole chosen P (bench_in b)))
-          (ran_out (packed (reply BadArguments)) b.machine b.registers b.marks b.memory b.steps))
+          (ran_out (packed (reply (Err BadArguments))) b.machine b.registers b.marks b.memory b.steps))
 
       -- after a run that is done, and after one that is not
       shown : (t : Bool) → length b.machine ≡ machine_bytes → Safe b (cond t (put_machine C.machine b.machine) b.machine) C.memory
@@ -305,7 +305,7 @@ module _ (b : Buffers) (w : Words (machine_of b.machine)) where
       o = read_image image b.registers b.marks
 
       out : Bool → BlockOutcome
-      out t = cond t (into_block b.machine o) (restored_as (record { answer = block_refused (check_image image); machine = no_machine }) b.machine b.registers b.marks)
+      out t = cond t (into_block b.machine o) (restored_as (Err (block_refused (check_image image))) b.machine b.registers b.marks)
 
       shown : (t : Bool) → length b.machine ≡ machine_bytes
           → Words (machine_of (cond t (put_machine o.machine (cond t (put_seals o.seals b.machine) b.machine)) (cond t (put_seals o.seals b.machine) b.machine)))
@@ -313,10 +313,9 @@ module _ (b : Buffers) (w : Words (machine_of b.machine)) where
       shown false l = w
 
       refused : (t : Bool) → eqb (image_reply (block_refused (check_image image))).number 0 ≡ t → Words (machine_of (cond t (put_machine no_machine b.machine) b.machine))
-      refused true e = absurd (never (check_image image) e)
+      refused true e = absurd (never (block_refused (check_image image)) e)
         where
-          never : (a : Imaged) → eqb (image_reply (block_refused a)).number 0 ≡ true → ⊥
-          never Image.Done h = false≢true h
+          never : (a : ImageError) → eqb (image_reply a).number 0 ≡ true → ⊥
           never Image.BadArguments h = false≢true h
           never Image.NoRoom h = false≢true h
           never (Image.Damaged p) h = false≢true h
@@ -396,26 +395,25 @@ number-zero : (a : ImageReply) → packed_reply a 0 ≡ 0 → a.number ≡ 0
 unfolding packed_reply
 number-zero a e = omega (arith, e)
 
-never_done : (a : Imaged) → (image_reply (block_refused a)).number ≡ 0 → ⊥
-never_done Image.Done h = let z : ◌≡◌ {A = ℕ} 8 0 = h in omega arith
+never_done : (a : ImageError) → (image_reply a).number ≡ 0 → ⊥
 never_done Image.BadArguments h = let z : ◌≡◌ {A = ℕ} 8 0 = h in omega arith
-never_done Image.NoRoom h = let z : ◌≡◌ {A = ℕ} 8 0 = h in omega arith
+never_done Image.NoRoom h = let z : ◌≡◌ {A = ℕ} 14 0 = h in omega arith
 never_done (Image.Damaged p) h = let z : ◌≡◌ {A = ℕ} 15 0 = h in omega arith
 
-read_done : (q : Parsed Described) (registers marks : List ℕ) → (read_as q registers marks).answer.number ≡ 0 → (read_as q registers marks).answer ≡ image_reply Image.Done
+read_done : (q : Parsed Described) (registers marks : List ℕ) → (read_as q registers marks).answer.number ≡ 0 → (read_as q registers marks).answer ≡ image_done
 read_done (stopped p) registers marks h = let z : ◌≡◌ {A = ℕ} 15 0 = h in absurd (omega arith)
 read_done (whole d) registers marks h = go (fitted d registers marks) h
   where
     out : Bool → ReadOutcome
-    out t = cond t (restored Image.Done (machine_from d.header) d.header.seals (over (cells_in d) registers) (marks_of (cells_in d))) (restored Image.BadArguments no_machine [] registers marks)
+    out t = cond t (restored (machine_from d.header) d.header.seals (over (cells_in d) registers) (marks_of (cells_in d))) (not_restored Image.BadArguments registers marks)
 
-    go : (t : Bool) → (out t).answer.number ≡ 0 → (out t).answer ≡ image_reply Image.Done
+    go : (t : Bool) → (out t).answer.number ≡ 0 → (out t).answer ≡ image_done
     go true h = refl
     go false h = let z : ◌≡◌ {A = ℕ} 8 0 = h in absurd (omega arith)
 
 -- what an accepted read leaves
 pub record Read (image : List ℕ) (b : Buffers) (o : Called) : Type 0 where
-  pub done : (read_image image b.registers b.marks).answer ≡ image_reply Image.Done
+  pub done : (read_image image b.registers b.marks).answer ≡ image_done
   pub words : Words (machine_of o.after.machine)
   pub made : machine_of o.after.machine ≡ (read_image image b.registers b.marks).machine
   pub holds : seals_in o.after.machine ≡ (read_image image b.registers b.marks).seals
@@ -432,7 +430,7 @@ was_read image b small = go (eqb (length b.machine) machine_bytes) refl
     out : Bool → Called
     out t =
         after_read b (shown_read (cond t (into_block b.machine o)
-        (restored_as (record { answer = block_refused (check_image image); machine = no_machine }) b.machine b.registers b.marks)))
+        (restored_as (Err (block_refused (check_image image))) b.machine b.registers b.marks)))
 
     go : (t : Bool) → eqb (length b.machine) machine_bytes ≡ t → (out t).result ≡ 0 → Read image b (out t)
     go true e z =
@@ -454,7 +452,7 @@ was_read image b small = go (eqb (length b.machine) machine_bytes) refl
           long = ap length is ∙ length-put_machine o.machine (put_seals o.seals b.machine) ∙ long;
           rest = refl;
         }
-    go false e z = absurd (never_done (check_image image) (number-zero (image_reply (block_refused (check_image image))) z))
+    go false e z = absurd (never_done (block_refused (check_image image)) (number-zero (image_reply (block_refused (check_image image))) z))
 
 pub seal-holds-from-read-call : SealHoldsFromReadCall
 seal-holds-from-read-call image b small z cs h =

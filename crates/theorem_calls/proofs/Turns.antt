@@ -1,10 +1,10 @@
 -- bodlarina_run_turns as calls of bodlarina_run_turn: what a call writes to the blocks is what the next one reads.
 use Rattle.numbers.proofs.Kit.{◌≡◌, refl, sym, ap, ap₂, ◌∙◌, Bool, true, false, cond, List, [], ◌∷◌, ℕ, zero, suc, ◌+◌, ◌%◌, ◌*◌, ◌^◌, arith, eqb, length}
-use Rattle.numbers.proofs.Kit.{replicate, eqb-true, ne_eqb}
+use Rattle.numbers.proofs.Kit.{replicate, eqb-true, ne_eqb, Err}
 use Rattle.machine.specs.declared.Machine.{Machine}
-use Rattle.machine.specs.declared.Answer.TheVariants.{Done, BadArguments}
+use Rattle.machine.specs.declared.Refusal.TheVariants.{BadArguments}
 use Rattle.machine.specs.declared.Reply.{Reply}
-use Rattle.machine.specs.Answers.{reply, done}
+use Rattle.machine.specs.Answers.{reply, done, Done}
 use Rattle.machine.specs.Geometry.{Range, bench_of}
 use Rattle.unit_ranges.specs.Ranges.{seals_in}
 use Rattle.machine.specs.Setting.{chosen}
@@ -74,7 +74,7 @@ left result after = record { result = result; after = after }
 abbrev turn_on : Buffers → Bool → Called
 turn_on b t =
     after_turn b (cond t (shown_turn b.run b.machine (turn_outcome chosen (running_in b)))
-    (turned_out (packed (reply BadArguments)) b.run b.machine b.registers b.marks b.memory))
+    (turned_out (packed (reply (Err BadArguments))) b.run b.machine b.registers b.marks b.memory))
 
 turn-call : (b : Buffers) (t : Bool) → turn_blocks b.run b.machine ≡ t → called Call.run_turn b ≡ turn_on b t
 unfolding host_turn

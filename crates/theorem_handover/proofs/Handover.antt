@@ -1,4 +1,5 @@
 -- A machine handed over by its image, in C.
+use Rattle.std.specs.Prelude.{Ok, Err}
 use mathlib.Core.Path.{◌≡◌, refl, sym, ap, ap₂, ◌∙◌, subst}
 use mathlib.Core.Bool.{Bool, true, false, cond}
 use mathlib.Core.List.{List, [], ◌∷◌, ◌++◌}
@@ -18,8 +19,8 @@ use Rattle.machine.specs.Setting.{chosen}
 use Rattle.machine.specs.Starting.{no_machine}
 use Rattle.unit_ranges.specs.Ranges.{seals_in}
 use Rattle.c_blocks.specs.Blocks.{machine_bytes, machine_of, packed}
-use Rattle.image.specs.declared.Imaged.TheVariants as Imaged
-use Rattle.image.specs.Answers.{ImageReply, image_reply}
+use Rattle.image.specs.declared.ImageError.TheVariants as Imaged
+use Rattle.image.specs.Answers.{ImageReply, image_reply, image_done}
 use Rattle.image.specs.Images.{image_of, IsImage}
 use Rattle.image.specs.ImageFormat.{image_format}
 use Rattle.image.specs.Writing.{WriteOutcome, write_reply, write_image}
@@ -30,7 +31,7 @@ use Rattle.image_read.specs.Blocks.{block_refused, restored_as, into_block, read
 use Rattle.image_salvage.proofs.Keeps.{accepts-bytes}
 use Rattle.c_image.specs.ImageCalls.{packed_reply, HostWritten, written_out, host_image_write, shown_read, host_image_read}
 use Rattle.c_image.proofs.Packing.{image-write-packs-whole}
-use Rattle.machine.specs.declared.Answer.TheVariants.{BadArguments}
+use Rattle.machine.specs.declared.Refusal.TheVariants.{BadArguments}
 use Rattle.machine.specs.declared.Reply.{Reply}
 use Rattle.machine.specs.Answers.{bare, reply}
 use Rattle.machine.specs.Geometry.{parameters}
@@ -79,12 +80,12 @@ module _ (image : List ℕ) (b : Buffers) (small : ByteString image) (z : (calle
       }
 
   written_back : (room : List ℕ) → length image ≤ length room
-      → written_into room after ≡ written_out (packed_reply (image_reply Imaged.Done) (length image)) (image ++ drop (length image) room)
+      → written_into room after ≡ written_out (packed_reply image_done (length image)) (image ++ drop (length image) room)
   unfolding host_image_write
   written_back room l =
       let k = was_read image b small z in
       let w : (B : Bench) → WriteOutcome = λ B. write_image B.machine B.seals B.registers B.marks room in
-      let e : w (bench_in after) ≡ write_reply Imaged.Done (length image) (image ++ drop (length image) room)
+      let e : w (bench_in after) ≡ write_reply (Ok (length image)) (image ++ drop (length image) room)
       = ap w bench-is ∙ read-is-written-back image b.registers b.marks room small k.done l in
       ap (λ (t : Bool). cond t (written_out (packed_reply (w (bench_in after)).answer (w (bench_in after)).size) (w (bench_in after)).room) (written_out (packed_reply (image_reply Imaged.BadArguments) 0) room)) (eq-eqb (length after.machine) machine_bytes k.long)
       ∙ ap (λ (x : WriteOutcome). written_out (packed_reply x.answer x.size) x.room) e
@@ -105,7 +106,7 @@ module _ (b b' : Buffers) (room : List ℕ) (sb : sound_bench (bench_in b) ≡ t
   abbrev w : WriteOutcome
   w = write_image (machine_of b.machine) (seals_in b.machine) b.registers b.marks room
 
-  written_is : w ≡ write_reply Imaged.Done (length image) (image ++ drop (length image) room)
+  written_is : w ≡ write_reply (Ok (length image)) (image ++ drop (length image) room)
   unfolding write_image
   written_is = rw (sb, le-leb (length image) (length room) fits)
 
@@ -114,7 +115,7 @@ module _ (b b' : Buffers) (room : List ℕ) (sb : sound_bench (bench_in b) ≡ t
   result-is =
       (image-write-packs-whole b.machine b.registers b.marks room).1
       ∙ ap (λ (x : WriteOutcome). cond (eqb x.answer.number 0) x.size x.answer.place)
-      (ap (λ (t : Bool). cond t w (write_reply Imaged.BadArguments 0 room)) (eq-eqb (length b.machine) machine_bytes lm) ∙ written_is)
+      (ap (λ (t : Bool). cond t w (write_reply (Err Imaged.BadArguments) room)) (eq-eqb (length b.machine) machine_bytes lm) ∙ written_is)
 
   room-is : (written_into room b).image ≡ image ++ drop (length image) room
   unfolding host_image_write
@@ -131,18 +132,18 @@ module _ (b b' : Buffers) (room : List ℕ) (sb : sound_bench (bench_in b) ≡ t
       accepts-bytes image_format image a.0 a.1
 
   -- and is read back
-  back : ((read_image image b'.registers b'.marks).answer ≡ image_reply Imaged.Done)
+  back : ((read_image image b'.registers b'.marks).answer ≡ image_done)
       × Alike (bench_in b) (bench_of (read_image image b'.registers b'.marks).machine (read_image image b'.registers b'.marks).seals (read_image image b'.registers b'.marks).registers (read_image image b'.registers b'.marks).marks b.memory)
   back =
       let e : take w.size w.room ≡ image = ap (λ (x : WriteOutcome). take x.size x.room) written_is ∙ take-append_seam image (drop (length image) room) in
       let k = written-is-read-back (bench_in b) room b'.registers b'.marks sb bytes fits same in
-      subst (λ (z : List ℕ). let o = read_image z b'.registers b'.marks in (o.answer ≡ image_reply Imaged.Done) × Alike (bench_in b) (bench_of o.machine o.seals o.registers o.marks b.memory)) e k
+      subst (λ (z : List ℕ). let o = read_image z b'.registers b'.marks in (o.answer ≡ image_done) × Alike (bench_in b) (bench_of o.machine o.seals o.registers o.marks b.memory)) e k
 
   accepted : (called (Call.image_read image) b').result ≡ 0
   unfolding host_image_read read_block packed_reply
   accepted =
       let o = read_image image b'.registers b'.marks in
-      ap (λ (t : Bool). (shown_read (cond t (into_block b'.machine o) (restored_as (record { answer = block_refused (check_image image); machine = no_machine }) b'.machine b'.registers b'.marks))).result) (eq-eqb (length b'.machine) machine_bytes lm')
+      ap (λ (t : Bool). (shown_read (cond t (into_block b'.machine o) (restored_as (Err (block_refused (check_image image))) b'.machine b'.registers b'.marks))).result) (eq-eqb (length b'.machine) machine_bytes lm')
       ∙ ap (λ (a : ImageReply). packed_reply a 0) back.0
 
   read_back : ((called (Call.image_read image) b').result ≡ 0) × Alike (bench_in b) (bench_in (called (Call.image_read image) b').after)
@@ -187,7 +188,7 @@ own-step-small : (word : ℕ) (xs : List ℕ) (B : Bench) → let a = (step_by c
 unfolding step_by outcome
 own-step-small word xs B =
     let M = parameters chosen B.machine in
-    subst (λ (t : Bool). let a = (cond t (beside (vectors_in idle M (decode word) xs B) (outcome_in idle M (decode word) xs B)) (beside idle.file (refused_in idle M (decode word) xs B BadArguments))).answer in (a.number < 2 ^ 16) × Small a)
+    subst (λ (t : Bool). let a = (cond t (beside (vectors_in idle M (decode word) xs B) (outcome_in idle M (decode word) xs B)) (beside idle.file (refused_in idle M (decode word) xs B (Err BadArguments)))).answer in (a.number < 2 ^ 16) × Small a)
     idle-fits (answer-small idle M word xs B)
 
 turn_small : (r : Running) → let a = (turn chosen r).answer in (a.number < 2 ^ 16) × Small a
@@ -205,7 +206,7 @@ turn-packs-whole run machine registers marks memory = go (turn_blocks run machin
     r = held_running run machine registers marks memory
 
     go : (t : Bool) → let a : Reply = cond t (turn chosen r).answer (bare 8) in
-        let n = (cond t (shown_turn run machine (turn_outcome chosen r)) (turned_out (packed (reply BadArguments)) run machine registers marks memory)).result in
+        let n = (cond t (shown_turn run machine (turn_outcome chosen r)) (turned_out (packed (reply (Err BadArguments))) run machine registers marks memory)).result in
         (n % 2 ^ 16 ≡ a.number) × (n / 2 ^ 16 % 2 ^ 16 ≡ a.row) × (n / 2 ^ 32 ≡ a.column)
     go true = let s = turn_small r in whole (turn chosen r).answer s.0 s.1
     go false = (refl, refl, refl)

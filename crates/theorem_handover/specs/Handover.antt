@@ -9,8 +9,7 @@ use Rattle.machine.specs.Alike.{Alike}
 use Rattle.machine.specs.Setting.{chosen}
 use Rattle.run.specs.Turn.{turn}
 use Rattle.c_blocks.specs.Blocks.{machine_bytes, machine_of}
-use Rattle.image.specs.declared.Imaged.TheVariants.{Done}
-use Rattle.image.specs.Answers.{image_reply}
+use Rattle.image.specs.Answers.{image_done}
 use Rattle.image.specs.Theorems.{image_in, Fits}
 use Rattle.c_turn.specs.TurnCalls.{turn_blocks, held_running, host_turn}
 use Rattle.c_image.specs.ImageCalls.{packed_reply, HostWritten, written_out, host_image_write}
@@ -51,7 +50,7 @@ WrittenCallIsReadBack = (b b' : Buffers) (room : List ℕ) → sound_bench (benc
 -- a machine that was read is written as the bytes that were read, and the room past them stays
 abbrev pub ReadCallIsWrittenBack : Type 0
 ReadCallIsWrittenBack = (image room : List ℕ) (b : Buffers) → ByteString image → (called (Call.image_read image) b).result ≡ 0 → length image ≤ length room
-    → written_into room (called (Call.image_read image) b).after ≡ written_out (packed_reply (image_reply Done) (length image)) (image ++ drop (length image) room)
+    → written_into room (called (Call.image_read image) b).after ≡ written_out (packed_reply image_done (length image)) (image ++ drop (length image) room)
 
 -- ---- images after each call
 

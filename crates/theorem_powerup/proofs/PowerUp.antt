@@ -2,10 +2,8 @@
 use Rattle.numbers.proofs.Kit.{◌≡◌, refl, sym, ap, ap₂, ◌∙◌, subst, Bool, true, false, cond, List, [], ◌∷◌, ℕ, zero, suc, arith, eqb, length, get_or}
 use Rattle.numbers.proofs.Kit.{replicate, eqb-true}
 use Rattle.numbers.specs.Blocks.{Choice}
-use Rattle.machine.specs.declared.Answer.TheVariants.{Done}
-use Rattle.machine.specs.declared.Answer.{Answer}
 use Rattle.machine.specs.declared.Reply.{Reply}
-use Rattle.machine.specs.Answers.{reply, done, is_done, verdict}
+use Rattle.machine.specs.Answers.{reply, done, is_done, verdict, Done, Answer}
 use Rattle.machine.specs.Geometry.{Bench, permitted, register_bytes}
 use Rattle.machine.specs.Alike.{Agree}
 use Rattle.machine.specs.Vectors.{Vectors, vectors_of}

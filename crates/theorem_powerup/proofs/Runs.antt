@@ -1,11 +1,10 @@
 -- Request Nine, of product runs: what is asked for and carried out in a turn depends on the run and on what a step depends on.
 use Rattle.numbers.proofs.Kit.{◌≡◌, refl, ap, ap₂, ◌∙◌, subst, Bool, cond, List, [], ◌∷◌, Option, none, some, ℕ, zero, suc, ◌+◌}
 use Rattle.numbers.specs.Blocks.{Choice}
-use Rattle.machine.specs.declared.Answer.{Answer}
-use Rattle.machine.specs.declared.Answer.TheVariants.{BadArguments, OutsideMemory, Overlap}
+use Rattle.machine.specs.declared.Refusal.TheVariants.{BadArguments, OutsideMemory, Overlap}
 use Rattle.machine.specs.declared.Machine.{Machine}
 use Rattle.machine.specs.declared.Reply.{Reply}
-use Rattle.machine.specs.Answers.{reply, done, ◌otherwise◌, verdict, is_done}
+use Rattle.machine.specs.Answers.{reply, done, ◌otherwise◌, verdict, is_done, Answer}
 use Rattle.machine.specs.Geometry.{sealed, Bench, parameters}
 use Rattle.machine.specs.Faults.{sound}
 use Rattle.run.specs.declared.Plan.{Plan}

@@ -1,14 +1,13 @@
 -- Request Nine: what a word answers, leaves in the scalars and in memory, and marks does not depend on unmarked register bytes.
 -- A new instruction adds a case to `meant-same` (by refl) and one to `unseen`.
 use Rattle.numbers.proofs.Kit.{◌≡◌, refl, sym, ap, ap₂, ◌∙◌, subst, Bool, true, false, cond, ◌&&◌, List, [], ◌∷◌, ℕ, zero, suc, ◌*◌, ◌^◌, ◌<◌, mul-pos}
-use Rattle.numbers.proofs.Kit.{one-mul, arith, eqb, ltb, length, ℤ, pos, negsuc, ◌+ℤ◌, ◌*ℤ◌, *ℤ-zero, ne_eqb}
+use Rattle.numbers.proofs.Kit.{one-mul, arith, eqb, ltb, length, ℤ, pos, negsuc, ◌+ℤ◌, ◌*ℤ◌, *ℤ-zero, ne_eqb, Err}
 use Rattle.numbers.specs.Blocks.{Choice}
 use Rattle.numbers.specs.Reduce.{signed, reduce}
 use Rattle.numbers.specs.Binary32.{float_product}
 use Rattle.numbers.proofs.ReduceLaws.{sumℤ-cong}
 use Rattle.numbers.proofs.Binary32Laws.{product-cong}
-use Rattle.machine.specs.declared.Answer.{Answer}
-use Rattle.machine.specs.declared.Answer.TheVariants.{Done, BadArguments, TooManySeals}
+use Rattle.machine.specs.declared.Refusal.TheVariants.{BadArguments, TooManySeals}
 use Rattle.machine.specs.declared.Machine.{Machine}
 use Rattle.machine.specs.declared.Dimension.{Dimension}
 use Rattle.machine.specs.declared.Dimension.TheVariants.{DimensionM, DimensionK, DimensionN}
@@ -16,7 +15,7 @@ use Rattle.machine.specs.declared.Form.{Form}
 use Rattle.machine.specs.declared.Form.TheVariants.{Plain, Transposed}
 use Rattle.machine.specs.declared.Instruction.{Instruction}
 use Rattle.machine.specs.declared.Instruction.TheVariants.{Illegal, SetTypeImmediate, SetType, SetTileImmediate, SetTile, Load, Store, Multiply, Combine, Scale, ScaleImmediate, FloatMultiply, MoveOut, MoveIn}
-use Rattle.machine.specs.Answers.{reply, Check, ◌otherwise◌, verdict, is_done}
+use Rattle.machine.specs.Answers.{reply, Check, ◌otherwise◌, verdict, is_done, Answer, Done}
 use Rattle.machine.specs.Geometry.{Range, sealed, Parameters, parameters, State, machine_after, Bench, bench_of, register_at, tile_at, acc_at, with_scalar}
 use Rattle.machine.specs.Setting.{sew, maximum, size_in, smaller}
 use Rattle.machine.specs.Listing.{decode}
@@ -385,8 +384,8 @@ step-ignores-unmarked grant word xs W B B' t =
     C : Bench
     C = lent B B'.registers
 
-    go : (f : Bool) → SameOutcome (cond f (here W M (decode word) xs B) (beside W.file (Step.refused_in W M (decode word) xs B BadArguments)))
-        (cond f (here W M (decode word) xs C) (beside W.file (Step.refused_in W M (decode word) xs C BadArguments)))
+    go : (f : Bool) → SameOutcome (cond f (here W M (decode word) xs B) (beside W.file (Step.refused_in W M (decode word) xs B (Err BadArguments))))
+        (cond f (here W M (decode word) xs C) (beside W.file (Step.refused_in W M (decode word) xs C (Err BadArguments))))
     go true = outcome-same W M (decode word) xs B B'.registers t.alike.agree
     go false = record {
       same_answer = refl;

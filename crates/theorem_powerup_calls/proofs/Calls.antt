@@ -1,4 +1,5 @@
 -- Request Nine, of the C functions: each call is a function of its blocks and of what a step, a run's start, its turns or a whole run gives.
+use Rattle.std.specs.Prelude.{Ok, Err}
 use mathlib.Core.Path.{◌≡◌, refl, sym, ap, ap₂, ◌∙◌, subst}
 use mathlib.Core.Bool.{Bool, true, false, cond, ◌&&◌}
 use mathlib.Core.List.{List, [], ◌∷◌, ◌++◌}
@@ -9,11 +10,10 @@ use lib.ListN.{length, drop, get_or, replicate}
 use lib.Dec.{leb, eqb}
 use borrow.Author.Tests.{eqb-true}
 use Rattle.machine.specs.declared.Machine.{Machine}
-use Rattle.machine.specs.declared.Answer.TheVariants.{Done, BadArguments, TooManySeals}
-use Rattle.machine.specs.declared.Answer.{Answer}
+use Rattle.machine.specs.declared.Refusal.TheVariants.{BadArguments, TooManySeals}
 use Rattle.machine.specs.Tests.{every}
 use Rattle.machine.specs.declared.Reply.{Reply}
-use Rattle.machine.specs.Answers.{reply, done, is_done}
+use Rattle.machine.specs.Answers.{reply, done, is_done, Done, Answer}
 use Rattle.machine.specs.Geometry.{Range, register_bytes, Bench, bench_of}
 use Rattle.machine.specs.Setting.{chosen}
 use Rattle.machine.specs.Starting.{ranges, most_seals, startable, StartOutcome, started_as, start_machine, fresh_machine, no_machine}
@@ -36,13 +36,13 @@ use Rattle.c_run.specs.RunCalls.{run_started_out, shown_run_start, host_run_star
 use Rattle.c_turn.specs.TurnCalls.{turned_out, shown_running, held_running, turn_blocks, shown_turn, host_turn, shown_turns, host_turns, ran_out, shown_run, host_run}
 use Rattle.numbers_format.specs.Parser.{Parsed, parse}
 use Rattle.numbers_format.specs.Parser.Parsed.{whole, stopped}
-use Rattle.image.specs.declared.Imaged.TheVariants as Image
+use Rattle.image.specs.declared.ImageError.TheVariants as Image
 use Rattle.image.specs.Answers.{image_reply}
 use Rattle.image.specs.Cells.{Cell, over, marks_of}
 use Rattle.image.specs.Images.{machine_from, image_of, sound_with}
 use Rattle.image.specs.ImageFormat.{Described, image_format}
 use Rattle.image.specs.Writing.{SizeOutcome, size_reply, size_image, WriteOutcome, write_reply, write_image}
-use Rattle.image.specs.Reading.{verdict_of, check_image, restored, cells_in, fitted, read_as, read_image}
+use Rattle.image.specs.Reading.{verdict_of, check_image, restored, cells_in, fitted, read_as, read_image, not_restored}
 use Rattle.image.proofs.Images.{alike-one-image}
 use Rattle.image_read.specs.Blocks.{restored_as, block_refused, into_block, read_block}
 use Rattle.c_image.specs.ImageCalls.{packed_reply, host_image_size, HostWritten, written_out, host_image_write, shown_read, host_image_read}
@@ -112,8 +112,8 @@ started_by rlen mlen elen rule seals b a =
 
 abbrev start_on : (rlen mlen elen rule : ℕ) → (seals : List ℕ) → Buffers → Bool → Bool → Bool → Called
 start_on rlen mlen elen rule seals b t u v =
-    after_start b (cond t (shown_start b.machine (started_by rlen mlen elen rule seals b (cond u (cond v Done TooManySeals) BadArguments)))
-    (started_out (packed (reply BadArguments)) b.machine b.registers b.marks))
+    after_start b (cond t (shown_start b.machine (started_by rlen mlen elen rule seals b (cond u (cond v Done (Err TooManySeals)) (Err BadArguments))))
+    (started_out (packed (reply (Err BadArguments))) b.machine b.registers b.marks))
 
 -- at most eight ranges
 abbrev few : List ℕ → Bool
@@ -155,7 +155,7 @@ module _ (b : Buffers) (ys : List ℕ) (a : Agree b.marks b.registers ys) where
       out t xs =
           let o : SealOutcome = add_seal from size (held xs) in
           after_seal b (cond t (sealed_out (packed o.answer) (cond (done o.answer) (put_seals o.bench.seals b.machine) b.machine) xs b.marks)
-          (sealed_out (packed (reply BadArguments)) b.machine xs b.marks))
+          (sealed_out (packed (reply (Err BadArguments))) b.machine xs b.marks))
 
       go : (t : Bool) → SameCalled (out t b.registers) (out t ys)
       go true =
@@ -182,7 +182,7 @@ module _ (b : Buffers) (ys : List ℕ) (a : Agree b.marks b.registers ys) where
     where
       out : Bool → List ℕ → Called
       out t xs =
-          after_step b (cond t (shown_step b.machine (step_block word b.scalars (vectors_of b.file group) (bench xs))) (stepped_out (packed (reply BadArguments)) b.machine xs b.marks b.scalars b.memory b.file))
+          after_step b (cond t (shown_step b.machine (step_block word b.scalars (vectors_of b.file group) (bench xs))) (stepped_out (packed (reply (Err BadArguments))) b.machine xs b.marks b.scalars b.memory b.file))
 
       go : (t : Bool) → SameCalled (out t b.registers) (out t ys)
       go true =
@@ -209,7 +209,7 @@ module _ (b : Buffers) (ys : List ℕ) (a : Agree b.marks b.registers ys) where
     where
       out : Bool → List ℕ → Called
       out t xs =
-          after_run_start b (cond t (shown_run_start b.machine b.run (start_run chosen P (bench xs))) (run_started_out (packed (reply BadArguments)) b.machine xs b.marks b.memory b.run))
+          after_run_start b (cond t (shown_run_start b.machine b.run (start_run chosen P (bench xs))) (run_started_out (packed (reply (Err BadArguments))) b.machine xs b.marks b.memory b.run))
 
       go : (t : Bool) → SameCalled (out t b.registers) (out t ys)
       go true =
@@ -258,7 +258,7 @@ module _ (b : Buffers) (ys : List ℕ) (a : Agree b.marks b.registers ys) where
     where
       out : Bool → List ℕ → Called
       out t xs =
-          after_turn b (cond t (shown_turn b.run b.machine (turn_outcome chosen (held_running b.run b.machine xs b.marks b.memory))) (turned_out (packed (reply BadArguments)) b.run b.machine xs b.marks b.memory))
+          after_turn b (cond t (shown_turn b.run b.machine (turn_outcome chosen (held_running b.run b.machine xs b.marks b.memory))) (turned_out (packed (reply (Err BadArguments))) b.run b.machine xs b.marks b.memory))
 
       go : (t : Bool) → SameCalled (out t b.registers) (out t ys)
       go true =
@@ -286,7 +286,7 @@ module _ (b : Buffers) (ys : List ℕ) (a : Agree b.marks b.registers ys) where
     where
       out : Bool → List ℕ → Called
       out t xs =
-          after_run b (cond t (shown_run b.machine b.steps (Whole.whole chosen P (bench xs))) (ran_out (packed (reply BadArguments)) b.machine xs b.marks b.memory b.steps))
+          after_run b (cond t (shown_run b.machine b.steps (Whole.whole chosen P (bench xs))) (ran_out (packed (reply (Err BadArguments))) b.machine xs b.marks b.memory b.steps))
 
       go : (t : Bool) → SameCalled (out t b.registers) (out t ys)
       go true =
@@ -319,7 +319,7 @@ module _ (b : Buffers) (ys : List ℕ) (a : Agree b.marks b.registers ys) where
   unfolding host_image_size size_image
   image-size-same =
       ap₂ (λ (t : Bool) (s : List ℕ).
-      let o : SizeOutcome = cond t (size_reply Image.Done (length s)) (size_reply Image.BadArguments 0) in
+      let o : SizeOutcome = cond t (size_reply (Ok (length s))) (size_reply (Err Image.BadArguments)) in
       cond (eqb (length b.machine) machine_bytes) (packed_reply o.answer o.size) (packed_reply (image_reply Image.BadArguments) 0))
       sound-alike one-image
 
@@ -327,7 +327,7 @@ module _ (b : Buffers) (ys : List ℕ) (a : Agree b.marks b.registers ys) where
   unfolding host_image_write write_image
   image-write-same image =
       ap₂ (λ (t : Bool) (s : List ℕ).
-      let o : WriteOutcome = cond t (cond (leb (length s) (length image)) (write_reply Image.Done (length s) (s ++ drop (length s) image)) (write_reply Image.NoRoom 0 image)) (write_reply Image.BadArguments 0 image) in
+      let o : WriteOutcome = cond t (cond (leb (length s) (length image)) (write_reply (Ok (length s)) (s ++ drop (length s) image)) (write_reply (Err Image.NoRoom) image)) (write_reply (Err Image.BadArguments) image) in
       cond (eqb (length b.machine) machine_bytes) (written_out (packed_reply o.answer o.size) o.room) (written_out (packed_reply (image_reply Image.BadArguments) 0) image))
       sound-alike one-image
 
@@ -338,14 +338,14 @@ module _ (b : Buffers) (ys : List ℕ) (a : Agree b.marks b.registers ys) where
       out : Bool → Parsed Described → List ℕ → Called
       out t q xs =
           after_read b (shown_read (cond t (into_block b.machine (read_as q xs b.marks))
-          (restored_as (record { answer = block_refused (verdict_of q); machine = no_machine }) b.machine xs b.marks)))
+          (restored_as (Err (block_refused (verdict_of q))) b.machine xs b.marks)))
 
       -- an image of which the buffers are of the machine's size, or not
       fits : Described → Bool → List ℕ → Called
       fits d u xs =
           after_read b (shown_read (into_block b.machine (cond u
-          (restored Image.Done (machine_from d.header) d.header.seals (over (cells_in d) xs) (marks_of (cells_in d)))
-          (restored Image.BadArguments no_machine [] xs b.marks))))
+          (restored (machine_from d.header) d.header.seals (over (cells_in d) xs) (marks_of (cells_in d)))
+          (not_restored Image.BadArguments xs b.marks))))
 
       fit : (d : Described) (u : Bool) → SameCalled (fits d u b.registers) (fits d u ys)
       fit d true = record { same-result = refl; alike-after = agreeing _ _ _ _ _ _ _ _ _ _ (over_agree (cells_in d) b.registers ys a.same_length) }
@@ -449,14 +449,14 @@ module _ (image : List ℕ) (b b' : Buffers) (p : AtPowerUp b b') where
   abbrev read_on : Buffers → Bool → Parsed Described → Called
   read_on c t q =
       after_read c (shown_read (cond t (into_block c.machine (read_as q c.registers c.marks))
-      (restored_as (record { answer = block_refused (verdict_of q); machine = no_machine }) c.machine c.registers c.marks)))
+      (restored_as (Err (block_refused (verdict_of q))) c.machine c.registers c.marks)))
 
   -- and of an image, by that on the other buffers
   abbrev fits_on : Buffers → Described → Bool → Called
   fits_on c d u =
       after_read c (shown_read (into_block c.machine (cond u
-      (restored Image.Done (machine_from d.header) d.header.seals (over (cells_in d) c.registers) (marks_of (cells_in d)))
-      (restored Image.BadArguments no_machine [] c.registers c.marks))))
+      (restored (machine_from d.header) d.header.seals (over (cells_in d) c.registers) (marks_of (cells_in d)))
+      (not_restored Image.BadArguments c.registers c.marks))))
 
   fits_both : (d : Described) (u : Bool) → length b.machine ≡ machine_bytes → Starts (fits_on b d u) (fits_on b' d u)
   fits_both d true n = (

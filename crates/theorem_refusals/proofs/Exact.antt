@@ -1,15 +1,14 @@
 -- Each answer of a step is given exactly when its sentence holds and none before it does.
 use Rattle.numbers.proofs.Kit.{◌≡◌, refl, sym, ap, ◌∙◌, subst, ◌↔◌, ◌⊎◌, inl, inr, Bool, true, false, cond, not, ◌||◌, List, [], ◌∷◌, ◌++◌, map, ℕ, arith}
-use Rattle.numbers.proofs.Kit.{eqb, length, eqb-true, eqb-false}
+use Rattle.numbers.proofs.Kit.{eqb, length, eqb-true, eqb-false, Err}
 use Rattle.numbers.specs.Blocks.{Choice}
-use Rattle.machine.specs.declared.Answer.{Answer}
-use Rattle.machine.specs.declared.Answer.TheVariants.{Done, IllegalWord, IllegalType, BadWidth, TileTooLarge, Unwritten, OutsideMemory, SealedByte, BadArguments, Overlap, WrongOpcode, LeftOutWord, WrongRegister, RowsOverlap, TooManySeals}
+use Rattle.machine.specs.declared.Refusal.TheVariants.{IllegalWord, IllegalType, BadWidth, TileTooLarge, Unwritten, OutsideMemory, SealedByte, BadArguments, Overlap, WrongOpcode, LeftOutWord, WrongRegister, RowsOverlap, TooManySeals}
 use Rattle.machine.specs.declared.Reply.{Reply}
 use Rattle.machine.specs.declared.Wrong.{Wrong}
 use Rattle.machine.specs.declared.Wrong.TheVariants.{Opcode, LeftOut, Unlisted, Register}
 use Rattle.machine.specs.declared.Instruction.{Instruction}
 use Rattle.machine.specs.Tests.{is_in, every}
-use Rattle.machine.specs.Answers.{bare, reply, number, is_done, Check, verdict}
+use Rattle.machine.specs.Answers.{bare, reply, number, is_done, Check, verdict, Answer, Done}
 use Rattle.machine.specs.Geometry.{Range, sealed, Parameters, parameters, State, state_of, Bench}
 use Rattle.machine.specs.Setting.{mill}
 use Rattle.machine.specs.Listing.{bits, decode}
@@ -68,13 +67,13 @@ module _ (M : Parameters) (seals : List Range) (st : State) (mem : List ℕ) (op
   p7 = rows_miss (sealed seals) (writes st op).base (writes st op).stride (writes st op).count (writes st op).size
 
   abbrev a7 : Answer
-  a7 = cond p7 Done SealedByte
+  a7 = cond p7 Done (Err SealedByte)
 
   abbrev a13 : Answer
-  a13 = cond p13 a7 RowsOverlap
+  a13 = cond p13 a7 (Err RowsOverlap)
 
   abbrev a6 : Answer
-  a6 = cond p6 a13 OutsideMemory
+  a6 = cond p6 a13 (Err OutsideMemory)
 
   -- what is found of the elements to be read
   record Fifth : Type 0 where
@@ -83,7 +82,7 @@ module _ (M : Parameters) (seals : List Range) (st : State) (mem : List ℕ) (op
     column : ℕ
     tells : Tells passes (NotWritten M st op)
     first : passes ≡ false → FirstAmong st.marks (reads M st op) row column
-    is : verdict (behind_sizes M (sealed seals) st mem op) ≡ cond passes a6 (Unwritten row column)
+    is : verdict (behind_sizes M (sealed seals) st mem op) ≡ cond passes a6 (Err (Unwritten row column))
 
   fifth : Fifth
   fifth = go (read st.marks (reads M st op) (memory_checks M (sealed seals) st mem (touches st op) (writes st op)))
@@ -108,21 +107,21 @@ module _ (M : Parameters) (seals : List Range) (st : State) (mem : List ℕ) (op
 
   module _ (F : Fifth) where
     abbrev a5 : Answer
-    a5 = cond F.passes a6 (Unwritten F.row F.column)
+    a5 = cond F.passes a6 (Err (Unwritten F.row F.column))
 
     abbrev a4 : Answer
-    a4 = cond p4 a5 TileTooLarge
+    a4 = cond p4 a5 (Err TileTooLarge)
 
     abbrev a3 : Answer
-    a3 = cond p3 a4 BadWidth
+    a3 = cond p3 a4 (Err BadWidth)
 
     abbrev chain : Answer
-    chain = cond p2 a3 IllegalType
+    chain = cond p2 a3 (Err IllegalType)
 
     is-chain : verdict (groups M (sealed seals) st mem op) ≡ chain
     is-chain =
-        ap (λ (a : Answer). cond p2 (cond p3 a BadWidth) IllegalType)
-        (sizes-verdict (size_tests M (sealed seals) st mem op) (behind_sizes M (sealed seals) st mem op) ∙ ap (λ (a : Answer). cond p4 a TileTooLarge) F.is)
+        ap (λ (a : Answer). cond p2 (cond p3 a (Err BadWidth)) (Err IllegalType))
+        (sizes-verdict (size_tests M (sealed seals) st mem op) (behind_sizes M (sealed seals) st mem op) ∙ ap (λ (a : Answer). cond p4 a (Err TileTooLarge)) F.is)
 
     t2 : Tells p2 (TypeIsIllegal st op)
     t2 = tells-type M st op
@@ -144,86 +143,86 @@ module _ (M : Parameters) (seals : List Range) (st : State) (mem : List ℕ) (op
 
     -- no number but those of the tests that follow
     far7 : (k : ℕ) → eqb 0 k ≡ false → eqb 7 k ≡ false → ¬ (number a7 ≡ k)
-    far7 k z h7 = avoid p7 Done SealedByte k (eqb-false 0 k z) (eqb-false 7 k h7)
+    far7 k z h7 = avoid p7 Done (Err SealedByte) k (eqb-false 0 k z) (eqb-false 7 k h7)
 
     far13 : (k : ℕ) → eqb 0 k ≡ false → eqb 7 k ≡ false → eqb 13 k ≡ false → ¬ (number a13 ≡ k)
-    far13 k z h7 h13 = avoid p13 a7 RowsOverlap k (far7 k z h7) (eqb-false 13 k h13)
+    far13 k z h7 h13 = avoid p13 a7 (Err RowsOverlap) k (far7 k z h7) (eqb-false 13 k h13)
 
     far6 : (k : ℕ) → eqb 0 k ≡ false → eqb 7 k ≡ false → eqb 13 k ≡ false → eqb 6 k ≡ false → ¬ (number a6 ≡ k)
-    far6 k z h7 h13 h6 = avoid p6 a13 OutsideMemory k (far13 k z h7 h13) (eqb-false 6 k h6)
+    far6 k z h7 h13 h6 = avoid p6 a13 (Err OutsideMemory) k (far13 k z h7 h13) (eqb-false 6 k h6)
 
     far5 : (k : ℕ) → eqb 0 k ≡ false → eqb 7 k ≡ false → eqb 13 k ≡ false → eqb 6 k ≡ false → eqb 5 k ≡ false → ¬ (number a5 ≡ k)
-    far5 k z h7 h13 h6 h5 = avoid F.passes a6 (Unwritten F.row F.column) k (far6 k z h7 h13 h6) (eqb-false 5 k h5)
+    far5 k z h7 h13 h6 h5 = avoid F.passes a6 (Err (Unwritten F.row F.column)) k (far6 k z h7 h13 h6) (eqb-false 5 k h5)
 
     far4 : (k : ℕ) → eqb 0 k ≡ false → eqb 7 k ≡ false → eqb 13 k ≡ false → eqb 6 k ≡ false → eqb 5 k ≡ false → eqb 4 k ≡ false → ¬ (number a4 ≡ k)
-    far4 k z h7 h13 h6 h5 h4 = avoid p4 a5 TileTooLarge k (far5 k z h7 h13 h6 h5) (eqb-false 4 k h4)
+    far4 k z h7 h13 h6 h5 h4 = avoid p4 a5 (Err TileTooLarge) k (far5 k z h7 h13 h6 h5) (eqb-false 4 k h4)
 
     far3 : (k : ℕ) → eqb 0 k ≡ false → eqb 7 k ≡ false → eqb 13 k ≡ false → eqb 6 k ≡ false → eqb 5 k ≡ false → eqb 4 k ≡ false → eqb 3 k ≡ false → ¬ (number a3 ≡ k)
-    far3 k z h7 h13 h6 h5 h4 h3 = avoid p3 a4 BadWidth k (far4 k z h7 h13 h6 h5 h4) (eqb-false 3 k h3)
+    far3 k z h7 h13 h6 h5 h4 h3 = avoid p3 a4 (Err BadWidth) k (far4 k z h7 h13 h6 h5 h4) (eqb-false 3 k h3)
 
     far : (k : ℕ) → eqb 0 k ≡ false → eqb 7 k ≡ false → eqb 13 k ≡ false → eqb 6 k ≡ false → eqb 5 k ≡ false → eqb 4 k ≡ false → eqb 3 k ≡ false → eqb 2 k ≡ false → ¬ (number chain ≡ k)
-    far k z h7 h13 h6 h5 h4 h3 h2 = avoid p2 a3 IllegalType k (far3 k z h7 h13 h6 h5 h4 h3) (eqb-false 2 k h2)
+    far k z h7 h13 h6 h5 h4 h3 h2 = avoid p2 a3 (Err IllegalType) k (far3 k z h7 h13 h6 h5 h4 h3) (eqb-false 2 k h2)
 
     -- behind the first four
     behind2 : (k : ℕ) (X : Type 0) → eqb 2 k ≡ false → (number a3 ≡ k) ↔ X → (number chain ≡ k) ↔ (TypeIsIllegal st op else X)
-    behind2 k X h i = skip p2 (TypeIsIllegal st op) X a3 IllegalType k t2 (eqb-false 2 k h) i
+    behind2 k X h i = skip p2 (TypeIsIllegal st op) X a3 (Err IllegalType) k t2 (eqb-false 2 k h) i
 
     behind3 : (k : ℕ) (X : Type 0) → eqb 2 k ≡ false → eqb 3 k ≡ false → (number a4 ≡ k) ↔ X → (number chain ≡ k) ↔ (TypeIsIllegal st op else WidthIsBroken M st op else X)
-    behind3 k X h2 h3 i = behind2 k (WidthIsBroken M st op else X) h2 (skip p3 (WidthIsBroken M st op) X a4 BadWidth k t3 (eqb-false 3 k h3) i)
+    behind3 k X h2 h3 i = behind2 k (WidthIsBroken M st op else X) h2 (skip p3 (WidthIsBroken M st op) X a4 (Err BadWidth) k t3 (eqb-false 3 k h3) i)
 
     behind4 : (k : ℕ) (X : Type 0) → eqb 2 k ≡ false → eqb 3 k ≡ false → eqb 4 k ≡ false → (number a5 ≡ k) ↔ X
         → (number chain ≡ k) ↔ (TypeIsIllegal st op else WidthIsBroken M st op else SizeTooLarge M st op else X)
-    behind4 k X h2 h3 h4 i = behind3 k (SizeTooLarge M st op else X) h2 h3 (skip p4 (SizeTooLarge M st op) X a5 TileTooLarge k t4 (eqb-false 4 k h4) i)
+    behind4 k X h2 h3 h4 i = behind3 k (SizeTooLarge M st op else X) h2 h3 (skip p4 (SizeTooLarge M st op) X a5 (Err TileTooLarge) k t4 (eqb-false 4 k h4) i)
 
     behind5 : (k : ℕ) (X : Type 0) → eqb 2 k ≡ false → eqb 3 k ≡ false → eqb 4 k ≡ false → eqb 5 k ≡ false → (number a6 ≡ k) ↔ X
         → (number chain ≡ k) ↔ (TypeIsIllegal st op else WidthIsBroken M st op else SizeTooLarge M st op else NotWritten M st op else X)
     behind5 k X h2 h3 h4 h5 i =
-        behind4 k (NotWritten M st op else X) h2 h3 h4 (skip F.passes (NotWritten M st op) X a6 (Unwritten F.row F.column) k F.tells (eqb-false 5 k h5) i)
+        behind4 k (NotWritten M st op else X) h2 h3 h4 (skip F.passes (NotWritten M st op) X a6 (Err (Unwritten F.row F.column)) k F.tells (eqb-false 5 k h5) i)
 
     abbrev Before6 : Type 0 → Type 0
     Before6 X = TypeIsIllegal st op else WidthIsBroken M st op else SizeTooLarge M st op else NotWritten M st op else X
 
     two_is : (number chain ≡ 2) ↔ TypeIsIllegal st op
-    two_is = hit p2 (TypeIsIllegal st op) a3 IllegalType 2 t2 (far3 2 refl refl refl refl refl refl refl) refl
+    two_is = hit p2 (TypeIsIllegal st op) a3 (Err IllegalType) 2 t2 (far3 2 refl refl refl refl refl refl refl) refl
 
     three-is : (number chain ≡ 3) ↔ (TypeIsIllegal st op else WidthIsBroken M st op)
-    three-is = behind2 3 (WidthIsBroken M st op) refl (hit p3 (WidthIsBroken M st op) a4 BadWidth 3 t3 (far4 3 refl refl refl refl refl refl) refl)
+    three-is = behind2 3 (WidthIsBroken M st op) refl (hit p3 (WidthIsBroken M st op) a4 (Err BadWidth) 3 t3 (far4 3 refl refl refl refl refl refl) refl)
 
     four_is : (number chain ≡ 4) ↔ (TypeIsIllegal st op else WidthIsBroken M st op else SizeTooLarge M st op)
-    four_is = behind3 4 (SizeTooLarge M st op) refl refl (hit p4 (SizeTooLarge M st op) a5 TileTooLarge 4 t4 (far5 4 refl refl refl refl refl) refl)
+    four_is = behind3 4 (SizeTooLarge M st op) refl refl (hit p4 (SizeTooLarge M st op) a5 (Err TileTooLarge) 4 t4 (far5 4 refl refl refl refl refl) refl)
 
     five-is : (number chain ≡ 5) ↔ (TypeIsIllegal st op else WidthIsBroken M st op else SizeTooLarge M st op else NotWritten M st op)
-    five-is = behind4 5 (NotWritten M st op) refl refl refl (hit F.passes (NotWritten M st op) a6 (Unwritten F.row F.column) 5 F.tells (far6 5 refl refl refl refl) refl)
+    five-is = behind4 5 (NotWritten M st op) refl refl refl (hit F.passes (NotWritten M st op) a6 (Err (Unwritten F.row F.column)) 5 F.tells (far6 5 refl refl refl refl) refl)
 
     six-is : (number chain ≡ 6) ↔ Before6 (LiesOutside mem (touches st op))
-    six-is = behind5 6 (LiesOutside mem (touches st op)) refl refl refl refl (hit p6 (LiesOutside mem (touches st op)) a13 OutsideMemory 6 t6 (far13 6 refl refl refl) refl)
+    six-is = behind5 6 (LiesOutside mem (touches st op)) refl refl refl refl (hit p6 (LiesOutside mem (touches st op)) a13 (Err OutsideMemory) 6 t6 (far13 6 refl refl refl) refl)
 
     thirteen-is : (number chain ≡ 13) ↔ Before6 (LiesOutside mem (touches st op) else InTwoRows (writes st op))
     thirteen-is =
         behind5 13 (LiesOutside mem (touches st op) else InTwoRows (writes st op)) refl refl refl refl
-        (skip p6 (LiesOutside mem (touches st op)) (InTwoRows (writes st op)) a13 OutsideMemory 13 t6 (eqb-false 6 13 refl)
-        (hit p13 (InTwoRows (writes st op)) a7 RowsOverlap 13 t13 (far7 13 refl refl) refl))
+        (skip p6 (LiesOutside mem (touches st op)) (InTwoRows (writes st op)) a13 (Err OutsideMemory) 13 t6 (eqb-false 6 13 refl)
+        (hit p13 (InTwoRows (writes st op)) a7 (Err RowsOverlap) 13 t13 (far7 13 refl refl) refl))
 
     seven_is : (number chain ≡ 7) ↔ Before6 (LiesOutside mem (touches st op) else InTwoRows (writes st op) else WritesSealed seals (writes st op))
     seven_is =
         behind5 7 (LiesOutside mem (touches st op) else InTwoRows (writes st op) else WritesSealed seals (writes st op)) refl refl refl refl
-        (skip p6 (LiesOutside mem (touches st op)) (InTwoRows (writes st op) else WritesSealed seals (writes st op)) a13 OutsideMemory 7 t6 (eqb-false 6 7 refl)
-        (skip p13 (InTwoRows (writes st op)) (WritesSealed seals (writes st op)) a7 RowsOverlap 7 t13 (eqb-false 13 7 refl)
-        (hit p7 (WritesSealed seals (writes st op)) Done SealedByte 7 t7 (eqb-false 0 7 refl) refl)))
+        (skip p6 (LiesOutside mem (touches st op)) (InTwoRows (writes st op) else WritesSealed seals (writes st op)) a13 (Err OutsideMemory) 7 t6 (eqb-false 6 7 refl)
+        (skip p13 (InTwoRows (writes st op)) (WritesSealed seals (writes st op)) a7 (Err RowsOverlap) 7 t13 (eqb-false 13 7 refl)
+        (hit p7 (WritesSealed seals (writes st op)) Done (Err SealedByte) 7 t7 (eqb-false 0 7 refl) refl)))
 
     nought-is : (number chain ≡ 0) ↔ Before6 (LiesOutside mem (touches st op) else InTwoRows (writes st op) else ¬ WritesSealed seals (writes st op))
     nought-is =
         behind5 0 (LiesOutside mem (touches st op) else InTwoRows (writes st op) else ¬ WritesSealed seals (writes st op)) refl refl refl refl
-        (skip p6 (LiesOutside mem (touches st op)) (InTwoRows (writes st op) else ¬ WritesSealed seals (writes st op)) a13 OutsideMemory 0 t6 (eqb-false 6 0 refl)
-        (skip p13 (InTwoRows (writes st op)) (¬ WritesSealed seals (writes st op)) a7 RowsOverlap 0 t13 (eqb-false 13 0 refl)
-        (all-passed p7 (WritesSealed seals (writes st op)) SealedByte t7 (eqb-false 7 0 refl))))
+        (skip p6 (LiesOutside mem (touches st op)) (InTwoRows (writes st op) else ¬ WritesSealed seals (writes st op)) a13 (Err OutsideMemory) 0 t6 (eqb-false 6 0 refl)
+        (skip p13 (InTwoRows (writes st op)) (¬ WritesSealed seals (writes st op)) a7 (Err RowsOverlap) 0 t13 (eqb-false 13 0 refl)
+        (all-passed p7 (WritesSealed seals (writes st op)) (Err SealedByte) t7 (eqb-false 7 0 refl))))
 
     names-it : number chain ≡ 5 → FirstAmong st.marks (reads M st op) (reply chain).row (reply chain).column
     names-it = go p2 p3 p4 F.passes refl
       where
         go : (q2 q3 q4 q5 : Bool) → F.passes ≡ q5
-            → number (cond q2 (cond q3 (cond q4 (cond q5 a6 (Unwritten F.row F.column)) TileTooLarge) BadWidth) IllegalType) ≡ 5
-            → let a = cond q2 (cond q3 (cond q4 (cond q5 a6 (Unwritten F.row F.column)) TileTooLarge) BadWidth) IllegalType in
+            → number (cond q2 (cond q3 (cond q4 (cond q5 a6 (Err (Unwritten F.row F.column))) (Err TileTooLarge)) (Err BadWidth)) (Err IllegalType)) ≡ 5
+            → let a = cond q2 (cond q3 (cond q4 (cond q5 a6 (Err (Unwritten F.row F.column))) (Err TileTooLarge)) (Err BadWidth)) (Err IllegalType) in
             FirstAmong st.marks (reads M st op) (reply a).row (reply a).column
         go false q3 q4 q5 e h = absurd (eqb-false 2 5 refl h)
         go true false q4 q5 e h = absurd (eqb-false 3 5 refl h)
@@ -239,7 +238,7 @@ module _ (M : Parameters) (seals : List Range) (st : State) (mem : List ℕ) (op
     by-checks = go p2 p3 p4 F.passes p6 p13 p7
       where
         go : (q2 q3 q4 q5 q6 q13 q7 : Bool)
-            → known (cond q2 (cond q3 (cond q4 (cond q5 (cond q6 (cond q13 (cond q7 Done SealedByte) RowsOverlap) OutsideMemory) (Unwritten F.row F.column)) TileTooLarge) BadWidth) IllegalType) ≡ true
+            → known (cond q2 (cond q3 (cond q4 (cond q5 (cond q6 (cond q13 (cond q7 Done (Err SealedByte)) (Err RowsOverlap)) (Err OutsideMemory)) (Err (Unwritten F.row F.column))) (Err TileTooLarge)) (Err BadWidth)) (Err IllegalType)) ≡ true
         go false q3 q4 q5 q6 q13 q7 = refl
         go true false q4 q5 q6 q13 q7 = refl
         go true true false q5 q6 q13 q7 = refl
@@ -253,37 +252,37 @@ module _ (M : Parameters) (seals : List Range) (st : State) (mem : List ℕ) (op
 
 done-is : (a : Answer) → is_done a ≡ true → a ≡ Done
 done-is Done h = refl
-done-is IllegalWord h = absurd (false-true h)
-done-is IllegalType h = absurd (false-true h)
-done-is BadWidth h = absurd (false-true h)
-done-is TileTooLarge h = absurd (false-true h)
-done-is (Unwritten row column) h = absurd (false-true h)
-done-is OutsideMemory h = absurd (false-true h)
-done-is SealedByte h = absurd (false-true h)
-done-is BadArguments h = absurd (false-true h)
-done-is Overlap h = absurd (false-true h)
-done-is WrongOpcode h = absurd (false-true h)
-done-is LeftOutWord h = absurd (false-true h)
-done-is WrongRegister h = absurd (false-true h)
-done-is RowsOverlap h = absurd (false-true h)
-done-is TooManySeals h = absurd (false-true h)
+done-is (Err IllegalWord) h = absurd (false-true h)
+done-is (Err IllegalType) h = absurd (false-true h)
+done-is (Err BadWidth) h = absurd (false-true h)
+done-is (Err TileTooLarge) h = absurd (false-true h)
+done-is (Err (Unwritten row column)) h = absurd (false-true h)
+done-is (Err OutsideMemory) h = absurd (false-true h)
+done-is (Err SealedByte) h = absurd (false-true h)
+done-is (Err BadArguments) h = absurd (false-true h)
+done-is (Err Overlap) h = absurd (false-true h)
+done-is (Err WrongOpcode) h = absurd (false-true h)
+done-is (Err LeftOutWord) h = absurd (false-true h)
+done-is (Err WrongRegister) h = absurd (false-true h)
+done-is (Err RowsOverlap) h = absurd (false-true h)
+done-is (Err TooManySeals) h = absurd (false-true h)
 
 bare-is : (a : Answer) → ¬ (number a ≡ 5) → reply a ≡ bare (number a)
 bare-is Done h = refl
-bare-is IllegalWord h = refl
-bare-is IllegalType h = refl
-bare-is BadWidth h = refl
-bare-is TileTooLarge h = refl
-bare-is (Unwritten row column) h = absurd (h refl)
-bare-is OutsideMemory h = refl
-bare-is SealedByte h = refl
-bare-is BadArguments h = refl
-bare-is Overlap h = refl
-bare-is WrongOpcode h = refl
-bare-is LeftOutWord h = refl
-bare-is WrongRegister h = refl
-bare-is RowsOverlap h = refl
-bare-is TooManySeals h = refl
+bare-is (Err IllegalWord) h = refl
+bare-is (Err IllegalType) h = refl
+bare-is (Err BadWidth) h = refl
+bare-is (Err TileTooLarge) h = refl
+bare-is (Err (Unwritten row column)) h = absurd (h refl)
+bare-is (Err OutsideMemory) h = refl
+bare-is (Err SealedByte) h = refl
+bare-is (Err BadArguments) h = refl
+bare-is (Err Overlap) h = refl
+bare-is (Err WrongOpcode) h = refl
+bare-is (Err LeftOutWord) h = refl
+bare-is (Err WrongRegister) h = refl
+bare-is (Err RowsOverlap) h = refl
+bare-is (Err TooManySeals) h = refl
 
 illegal-one : (o : Operation) → is_illegal o ≡ true → (w : Wrong) × (o ≡ illegal w)
 illegal-one (illegal wrong) h = (wrong, refl)
@@ -310,7 +309,7 @@ module _ (grant : Choice) (word : ℕ) (xs : List ℕ) (W : Vectors) (B : Bench)
   op = operation_in W M st xs (decode word)
 
   abbrev answer : Answer
-  answer = cond (vectors_fit W) (verdict (checks_in W M (decode word) xs B)) BadArguments
+  answer = cond (vectors_fit W) (verdict (checks_in W M (decode word) xs B)) (Err BadArguments)
 
   answer-is : (step_with grant word xs W B).answer ≡ reply answer
   unfolding step_with
@@ -323,8 +322,8 @@ module _ (grant : Choice) (word : ℕ) (xs : List ℕ) (W : Vectors) (B : Bench)
       carried true e = sym (ap reply (done-is v e))
       carried false e = refl
 
-      go : (t : Bool) → (cond t (beside (vectors_in W M (decode word) xs B) (outcome_in W M (decode word) xs B)) (beside W.file (Step.refused_in W M (decode word) xs B BadArguments))).answer
-          ≡ reply (cond t v BadArguments)
+      go : (t : Bool) → (cond t (beside (vectors_in W M (decode word) xs B) (outcome_in W M (decode word) xs B)) (beside W.file (Step.refused_in W M (decode word) xs B (Err BadArguments)))).answer
+          ≡ reply (cond t v (Err BadArguments))
       go true = carried (is_done v) refl
       go false = refl
 
@@ -362,14 +361,14 @@ module _ (grant : Choice) (word : ℕ) (xs : List ℕ) (W : Vectors) (B : Bench)
       one_of : is_in n (0 ∷ 1 ∷ 2 ∷ 3 ∷ 4 ∷ 5 ∷ 6 ∷ 7 ∷ 8 ∷ 10 ∷ 11 ∷ 12 ∷ 13 ∷ []) ≡ true
       one_of = each_in n (8 ∷ 10 ∷ 11 ∷ 1 ∷ 12 ∷ []) (λ (y : ℕ). is_in y (0 ∷ 1 ∷ 2 ∷ 3 ∷ 4 ∷ 5 ∷ 6 ∷ 7 ∷ 8 ∷ 10 ∷ 11 ∷ 12 ∷ 13 ∷ [])) refl h
 
-  at-fault : ¬ Faultless xs W B → Refused 8 → Exactly (reply BadArguments)
+  at-fault : ¬ Faultless xs W B → Refused 8 → Exactly (reply (Err BadArguments))
   at-fault f r = before 8 refl ((λ e. f), (λ y. refl)) r (λ l. f l.faultless)
 
   module _ (f : Faultless xs W B) where
     no-fault : (n : ℕ) → ¬ (n ≡ 8) → (n ≡ 8) ↔ ¬ Faultless xs W B
     no-fault n h = (λ e. absurd (h e), λ y. absurd (y f))
 
-    by_word : (w : Wrong) → Refused (number (word_answer w)) → Exactly (reply (word_answer w))
+    by_word : (w : Wrong) → Refused (number (Err (word_answer w))) → Exactly (reply (Err (word_answer w)))
     by_word Opcode r = before 10 refl (no-fault 10 (eqb-false 10 8 refl)) r (λ l. (r.ten.0 refl).1 l.opcode)
     by_word LeftOut r = before 11 refl (no-fault 11 (eqb-false 11 8 refl)) r (λ l. (r.eleven.0 refl).3 l.of-ours)
     by_word Unlisted r = before 1 refl (no-fault 1 (eqb-false 1 8 refl)) r (λ l. (r.one.0 refl).3 l.of-ours)
@@ -443,7 +442,7 @@ module _ (grant : Choice) (word : ℕ) (xs : List ℕ) (W : Vectors) (B : Bench)
       v = verdict (checks M (sealed B.seals) op st B.memory)
 
       go : (s t u : Bool) → vectors_fit W ≡ s → sound_bench B ≡ t → thirty_two xs ≡ u
-          → let a = cond s (cond t (cond u v BadArguments) BadArguments) BadArguments in Refused (number a) → Exactly (reply a)
+          → let a = cond s (cond t (cond u v (Err BadArguments)) (Err BadArguments)) (Err BadArguments) in Refused (number a) → Exactly (reply a)
       go false t u e g h = at-fault (λ f. false-true (sym e ∙ f.2))
       go true false u e g h = at-fault (λ f. false-true (sym g ∙ f.0))
       go true true false e g h = at-fault (λ f. false-true (sym h ∙ f.1))

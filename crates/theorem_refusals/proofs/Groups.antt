@@ -1,13 +1,13 @@
 -- The checks of an operation that is not illegal, in the groups of their answers: 2, 3, 4, 5, 6, 13, 7.
 use Rattle.numbers.proofs.Kit.{◌≡◌, refl, sym, ap, ap₂, ◌∙◌, subst, fun_ext, ◌⊎◌, inl, inr, Bool, true, false, cond, not, ◌&&◌, ◌||◌, List, [], ◌∷◌, ◌++◌}
 use Rattle.numbers.proofs.Kit.{map, ℕ, zero, suc, ◌+◌, ◌*◌, ◌≤◌, ◌<◌, zero-add, zero-mul, one-mul, mul-le-mul_right, arith, leb, eqb, length, get_or, eq-eqb}
-use Rattle.numbers.proofs.Kit.{eqb-true, eqb-false, ne_eqb, leb-true, leb-false}
-use Rattle.machine.specs.declared.Answer.{Answer}
-use Rattle.machine.specs.declared.Answer.TheVariants.{Done, IllegalType, BadWidth, TileTooLarge, Unwritten, OutsideMemory, SealedByte, RowsOverlap}
+use Rattle.numbers.proofs.Kit.{eqb-true, eqb-false, ne_eqb, leb-true, leb-false, Err}
+use Rattle.machine.specs.declared.Refusal.{Refusal}
+use Rattle.machine.specs.declared.Refusal.TheVariants.{IllegalType, BadWidth, TileTooLarge, Unwritten, OutsideMemory, SealedByte, RowsOverlap}
 use Rattle.machine.specs.declared.Form.{Form}
 use Rattle.machine.specs.declared.Form.TheVariants.{Plain, Transposed}
 use Rattle.machine.specs.Tests.{all, every}
-use Rattle.machine.specs.Answers.{Check, ◌otherwise◌, verdict}
+use Rattle.machine.specs.Answers.{Check, ◌otherwise◌, verdict, Answer, Done}
 use Rattle.machine.specs.Geometry.{Parameters, State, register_at, tile_at, acc_at}
 use Rattle.machine.specs.Setting.{sew, mill}
 use Rattle.machine.specs.Memory.{row_at, inside, distinct, rows_miss}
@@ -109,7 +109,7 @@ module _ (marks : List ℕ) where
 
   abbrev pub Read : List Source → List Check → Type 0
   Read Es rest = (AllOf Es × (verdict (map elements_check Es ++ rest) ≡ verdict rest))
-      ⊎ ((row : ℕ) × (column : ℕ) × FirstAmong marks Es row column × (verdict (map elements_check Es ++ rest) ≡ Unwritten row column))
+      ⊎ ((row : ℕ) × (column : ℕ) × FirstAmong marks Es row column × (verdict (map elements_check Es ++ rest) ≡ Err (Unwritten row column)))
 
   pub read : (Es : List Source) (rest : List Check) → Read Es rest
   read [] rest = inl (tt, refl)
@@ -119,16 +119,16 @@ module _ (marks : List ℕ) where
       more c = verdict (c ∷ (map elements_check Es ++ rest))
 
       go : (t : Bool) → marked marks E.at E.rows (E.columns * E.width) ≡ t → Read Es rest → Read (E ∷ Es) rest
-      go true e (inl x) = inl ((all-written E e, x.0), ap (λ (b : Bool). cond b (verdict (map elements_check Es ++ rest)) (elements_check E).answer) e ∙ x.1)
+      go true e (inl x) = inl ((all-written E e, x.0), ap (λ (b : Bool). cond b (verdict (map elements_check Es ++ rest)) (Err (elements_check E).answer)) e ∙ x.1)
       go true e (inr x) =
-          inr (x.0, x.1, inr (all-written E e, x.2), ap (λ (b : Bool). cond b (verdict (map elements_check Es ++ rest)) (elements_check E).answer) e ∙ x.3)
+          inr (x.0, x.1, inr (all-written E e, x.2), ap (λ (b : Bool). cond b (verdict (map elements_check Es ++ rest)) (Err (elements_check E).answer)) e ∙ x.3)
       go false e x =
           let f = not_written E e in
           inr (
             E.top + f.0,
             E.left + f.1,
             inl (f.0, f.1, f.2, refl, refl),
-            ap (λ (b : Bool). cond b (verdict (map elements_check Es ++ rest)) (elements_check E).answer) e ∙ check-names E f.0 f.1 f.2,
+            ap (λ (b : Bool). cond b (verdict (map elements_check Es ++ rest)) (Err (elements_check E).answer)) e ∙ ap (λ (r : Refusal). Err r) (check-names E f.0 f.1 f.2),
           )
 
   pub all_none : (Es : List Source) → AllOf Es → ¬ ((row : ℕ) × (column : ℕ) × FirstAmong marks Es row column)
@@ -264,7 +264,7 @@ module _ (M : Parameters) (isSealed : ℕ → Bool) (st : State) (mem : List ℕ
       ∷ tile (tile_at M b) st.tile_k st.tile_n (sew st.mtype)
       ∷ tile (acc_at M d) st.tile_m st.tile_n wide ∷ [])) ++ rest)
   multiply-reads wide d a b rest true e =
-      ap (λ (t : Bool). cond t (verdict rest) (needs false st.marks (acc_at M d) st.tile_m st.tile_n wide).answer)
+      ap (λ (t : Bool). cond t (verdict rest) (Err (needs false st.marks (acc_at M d) st.tile_m st.tile_n wide).answer))
       (empty-marked (acc_at M d) st.tile_m st.tile_n wide e)
   multiply-reads wide d a b rest false e =
       sym (
@@ -297,11 +297,11 @@ module _ (M : Parameters) (isSealed : ℕ → Bool) (st : State) (mem : List ℕ
   reads-last : (cs : List Check) → verdict cs ≡ verdict (cs ++ nothing)
   unfolding inside distinct rows_miss
   reads-last [] = refl
-  reads-last (c ∷ cs) = ap (λ (a : Answer). cond c.holds a c.answer) (reads-last cs)
+  reads-last (c ∷ cs) = ap (λ (a : Answer). cond c.holds a (Err c.answer)) (reads-last cs)
 
   same-behind : (cs ds es : List Check) → verdict ds ≡ verdict es → verdict (cs ++ ds) ≡ verdict (cs ++ es)
   same-behind [] ds es h = h
-  same-behind (c ∷ cs) ds es h = ap (λ (a : Answer). cond c.holds a c.answer) (same-behind cs ds es h)
+  same-behind (c ∷ cs) ds es h = ap (λ (a : Answer). cond c.holds a (Err c.answer)) (same-behind cs ds es h)
 
   scale-reads : (a : ℕ) (u : Bool) → verdict (needs u st.marks (acc_at M a) st.tile_m st.tile_n (sew st.mtype) ∷ [])
       ≡ verdict (map (elements_check st.marks) (cond u [] (tile (acc_at M a) st.tile_m st.tile_n (sew st.mtype) ∷ [])) ++ nothing)
@@ -463,7 +463,7 @@ module _ (M : Parameters) (st : State) where
   tells-size op = tells-sizes M st (uses op) (slice_fitting st op) (SliceTooLarge st op) (tells-slice op)
 
 -- the checks of sizes, with others behind them
-pub sizes-verdict : (bs : List Bool) (rest : List Check) → verdict (map too_large bs ++ rest) ≡ cond (every bs) (verdict rest) TileTooLarge
+pub sizes-verdict : (bs : List Bool) (rest : List Check) → verdict (map too_large bs ++ rest) ≡ cond (every bs) (verdict rest) (Err TileTooLarge)
 sizes-verdict [] rest = refl
 sizes-verdict (true ∷ bs) rest = sizes-verdict bs rest
 sizes-verdict (false ∷ bs) rest = refl

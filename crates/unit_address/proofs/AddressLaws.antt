@@ -1,15 +1,15 @@
 -- Signed strides in code and in the definitions, the address of a row, and the test of all rows by the first and the last.
-use Rattle.numbers.proofs.Kit.{◌≡◌, refl, sym, ap, ◌∙◌, subst, ◌⊎◌, inl, inr, Bool, true, false, cond, true≢false, ℕ, zero, suc, ◌+◌, ◌*◌, ◌-◌, ◌/◌, ◌^◌}
-use Rattle.numbers.proofs.Kit.{◌≤◌, ◌<◌, zero-mul, mul-zero, mul-le-mul_right, add-zero, mul_comm, le-div_iff_mul-le, arith, T, leb, ltb, ℤ, pos, negsuc}
-use Rattle.numbers.proofs.Kit.{neg_ℤ, nat_abs, ◌+ℤ◌, ◌-ℤ◌, ◌*ℤ◌, eq-eqb, ne_eqb, lt-ltb, le-ltb, ltb-true, ltb-false, le-leb, lt-leb, leb-true}
-use lib.Signed.{mag, non_neg, lt_z}
+use Rattle.numbers.proofs.Kit.{◌≡◌, refl, sym, ap, ◌∙◌, subst, ◌⊎◌, inl, inr, Bool, true, false, cond, true≢false, ℕ, zero, suc, ◌+◌, ◌*◌, ◌-◌, ◌^◌}
+use Rattle.numbers.proofs.Kit.{◌≤◌, ◌<◌, zero-mul, mul-le-mul_right, add-zero, arith, leb, ltb, ℤ, pos, negsuc}
+use Rattle.numbers.proofs.Kit.{nat_abs, ◌+ℤ◌, ◌*ℤ◌, eq-eqb, ne_eqb, lt-ltb, le-ltb, ltb-true, ltb-false, le-leb, lt-leb}
+use lib.Signed.{mag, lt_z}
 use mir.Syntax.{w64}
 use mir.Val.{to_z, of_z}
 use mir.ValLaws.{to_z-of_z}
 use Rattle.numbers.specs.Reduce.{signed}
 use Rattle.numbers.proofs.BlockLaws.{le-or-lt}
 use Rattle.machine.specs.Memory.{row_z, row_at, address, in_memory, inside}
-use Rattle.machine.proofs.TestLaws.{all-false, false-true, same_test}
+use Rattle.machine.proofs.TestLaws.{all-false, false-true}
 use Rattle.machine.proofs.MemoryLaws.{fits, fits-true, inside-true, inside-at, inside-rows, row_z-up, row_z-down, row_z-below}
 
 -- the stride's value: what its 64 bits stand for
@@ -18,62 +18,9 @@ step stride = signed (2 ^ 64) stride
 
 -- ---- signed numbers
 
--- the number that a machine word stands for is that of the definitions
-pub signed_is : (x : ℕ) → to_z w64 x ≡ signed (2 ^ 64) x
-signed_is x = go (ltb x (2 ^ 63)) refl
-  where
-    go : (t : Bool) → ltb x (2 ^ 63) ≡ t → to_z w64 x ≡ signed (2 ^ 64) x
-    go true e = rw (e, lt-ltb (x + x) (2 ^ 64) (omega (arith, ltb-true x (2 ^ 63) e)))
-    go false e = rw (e, le-ltb (x + x) (2 ^ 64) (omega (arith, ltb-false x (2 ^ 63) e)))
-
 -- a signed number that is passed on
 pub passed_on : (r : ℤ) (stride : ℕ) → mag r < 2 ^ 63 → r ≡ step stride → to_z w64 (of_z w64 r) ≡ step stride
 passed_on r stride h e = to_z-of_z w64 r (record { sfits = h }) ∙ e
-
-pub below_one : (k : ℕ) → negsuc 0 -ℤ pos k ≡ negsuc k
-below_one zero = refl
-below_one (suc k) = ap negsuc (omega arith)
-
-pub below-negative : (z : ℤ) → non_neg z ≡ false → negsuc 0 -ℤ z ≡ pos (mag z)
-below-negative (pos n) h = absurd (true≢false h)
-below-negative (negsuc n) h = simp (le-ltb (suc n) 1 (omega arith)) (ap pos (omega arith))
-
-pub magnitude-negative : (z : ℤ) → non_neg z ≡ false → mag z + 1 ≡ nat_abs z
-magnitude-negative (pos n) h = absurd (true≢false h)
-magnitude-negative (negsuc n) h = omega arith
-
-pub is_negative : (z : ℤ) → lt_z z (pos 0) ≡ true → non_neg z ≡ false
-is_negative (pos n) t = absurd (true≢false (sym t ∙ le-ltb n 0 (omega arith)))
-is_negative (negsuc n) t = refl
-
-pub not_negative : (z : ℤ) → lt_z z (pos 0) ≡ false → T (non_neg z) × (nat_abs z ≡ mag z)
-not_negative (pos n) t = (tt, refl)
-not_negative (negsuc n) t = absurd (true≢false t)
-
-nat_abs-neg : (m : ℕ) → nat_abs (neg_ℤ (pos m)) ≡ m
-nat_abs-neg zero = refl
-nat_abs-neg (suc m) = refl
-
-pub nat_abs-times : (row : ℕ) (z : ℤ) → nat_abs (pos row *ℤ z) ≡ nat_abs z * row
-nat_abs-times row (pos n) = mul_comm row n
-nat_abs-times row (negsuc n) = nat_abs-neg (row * suc n) ∙ mul_comm row (suc n)
-
-pub mag-le : (z : ℤ) → mag z ≤ nat_abs z
-mag-le (pos n) = omega arith
-mag-le (negsuc n) = omega arith
-
--- ---- a product bounded by a division
-
-pub no_distance : (a row room : ℕ) → row ≡ 0 → true ≡ leb (a * row) room
-no_distance a row room e = sym (rw (e, mul-zero) (le-leb 0 room (omega arith)))
-
-pub by-division : (a row room : ℕ) → ¬ (row ≡ 0) → leb a (room / row) ≡ leb (a * row) room
-by-division a row room h = same_test (leb a (room / row)) (leb (a * row) room)
-    (λ t. le-leb (a * row) room ((le-div_iff_mul-le {k = row} 0<row).0 (leb-true a (room / row) t)))
-    (λ t. le-leb a (room / row) ((le-div_iff_mul-le {k = row} 0<row).1 (leb-true (a * row) room t)))
-  where
-    0<row : zero < row
-    0<row = omega arith
 
 -- ---- an address, from base by a signed distance
 

@@ -11,22 +11,14 @@ ghost use Rattle.machine.specs.Memory.{row_at, address, in_memory, inside, disti
 pub fn as_signed(x: u64) -> i64
     ensures { result ≡ signed (2 ^ 64) x }
 {
-    if x < 0x8000_0000_0000_0000 {
-        x as i64
-    } else {
-        -1 - ((0xffff_ffff_ffff_ffff - x) as i64)
-    }
+    x.cast_signed()
 }
 
 // How far z is from 0.
 pub fn magnitude(z: i64) -> usize
     ensures { result ≡ nat_abs z }
 {
-    if z < 0 {
-        ((-1 - z) as usize) + 1
-    } else {
-        z as usize
-    }
+    z.unsigned_abs() as usize
 }
 
 // Where a row starts: the signed product of row and stride away from base. The product is bounded before it is formed (is_bounded),
@@ -48,10 +40,7 @@ pub fn row_address(base: usize, stride: i64, row: usize) -> usize
 pub fn is_bounded(stride: i64, row: usize, room: usize) -> bool
     ensures { result ≡ leb (nat_abs stride * row) room }
 {
-    if row == 0 {
-        return true;
-    }
-    magnitude(stride) <= room / row
+    row == 0 || magnitude(stride) <= room / row
 }
 
 // Whether the rows, of so many bytes each, lie in a memory of len bytes: the first does, and the last is not too far from it.
@@ -136,13 +125,12 @@ pub fn rows_miss(
     if bytes == 0 {
         return true;
     }
-    let mut i = 0;
-    while i < rows {
-        let at = row_address(base, as_signed(stride), i);
+    let step = as_signed(stride);
+    for i in 0..rows {
+        let at = row_address(base, step, i);
         if !misses_range(seal, size, at, bytes) {
             return false;
         }
-        i += 1;
     }
     true
 }

@@ -2,9 +2,9 @@
 #![tactic(auto)]
 
 ghost use Rattle.std.specs.Prelude.{◌≡◌};
-ghost use Rattle.machine.specs.Answers.{bare, reply, is_done};
+ghost use Rattle.machine.specs.Answers.{bare, reply};
 
-use machine::{Answer, Reply};
+use machine::{Answer, Refusal, Reply};
 
 // A number that names no row and no column.
 fn bare(number: u64) -> Reply
@@ -22,31 +22,24 @@ pub fn reply_of(answer: Answer) -> Reply
     ensures { result ≡ reply answer }
 {
     match answer {
-        Answer::Done => bare(0),
-        Answer::IllegalWord => bare(1),
-        Answer::IllegalType => bare(2),
-        Answer::BadWidth => bare(3),
-        Answer::TileTooLarge => bare(4),
-        Answer::Unwritten { row, column } => Reply {
+        Ok(()) => bare(0),
+        Err(Refusal::IllegalWord) => bare(1),
+        Err(Refusal::IllegalType) => bare(2),
+        Err(Refusal::BadWidth) => bare(3),
+        Err(Refusal::TileTooLarge) => bare(4),
+        Err(Refusal::Unwritten { row, column }) => Reply {
             number: 5,
             row: row,
             column: column,
         },
-        Answer::OutsideMemory => bare(6),
-        Answer::SealedByte => bare(7),
-        Answer::BadArguments => bare(8),
-        Answer::Overlap => bare(9),
-        Answer::WrongOpcode => bare(10),
-        Answer::LeftOutWord => bare(11),
-        Answer::WrongRegister => bare(12),
-        Answer::RowsOverlap => bare(13),
-        Answer::TooManySeals => bare(16),
+        Err(Refusal::OutsideMemory) => bare(6),
+        Err(Refusal::SealedByte) => bare(7),
+        Err(Refusal::BadArguments) => bare(8),
+        Err(Refusal::Overlap) => bare(9),
+        Err(Refusal::WrongOpcode) => bare(10),
+        Err(Refusal::LeftOutWord) => bare(11),
+        Err(Refusal::WrongRegister) => bare(12),
+        Err(Refusal::RowsOverlap) => bare(13),
+        Err(Refusal::TooManySeals) => bare(16),
     }
-}
-
-// Whether nothing was refused.
-pub fn is_done(answer: Answer) -> bool
-    ensures { result ≡ is_done answer }
-{
-    reply_of(answer).number == 0
 }

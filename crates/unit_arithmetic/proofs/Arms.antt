@@ -1,5 +1,5 @@
 -- What a step's arm knows once the checks have passed is what the tile functions require.
-use Rattle.numbers.proofs.Kit.{◌≡◌, refl, sym, ap, ap₂, ◌∙◌, subst, ◌⊎◌, ⊎_elim, inl, inr, Bool, true, false, ◌&&◌, ◌||◌, List, [], ◌∷◌, ℕ, zero, suc, ◌*◌}
+use Rattle.numbers.proofs.Kit.{◌≡◌, refl, sym, ap, ap₂, ◌∙◌, subst, ◌⊎◌, ⊎_elim, inl, inr, Bool, true, false, ◌&&◌, ◌||◌, List, ℕ, zero, suc, ◌*◌}
 use Rattle.numbers.proofs.Kit.{◌/◌, ◌%◌, ◌^◌, ◌≤◌, ◌<◌, min, one-mul, pow-succ', one-le-pow, div-mul-le_self, mul-le-mul_right, arith, leb, eqb, length, ℤ}
 use Rattle.numbers.proofs.Kit.{leb-true, eqb-true}
 use Rattle.numbers.specs.Blocks.{Choice}

@@ -1,16 +1,18 @@
 -- A tile multiplied in blocks of columns and terms is the tile multiplied at once, by whatever rule an element of C is made from its old
 -- value and the elements of A and B.
-use Rattle.numbers.proofs.Kit.{◌≡◌, sym, ap, ap₂, ◌∙◌, subst, ◌⊎◌, inl, inr, List, ℕ, zero, suc, ◌+◌, ◌*◌, ◌-◌, ◌/◌, ◌%◌, ◌^◌, ◌≤◌, ◌<◌, mul-le-mul_right}
-use Rattle.numbers.proofs.Kit.{mul-le-mul_left, div-add-mod', mod-lt, mod-eq_of_lt, div-lt_iff_lt-mul, eq-or-lt_of_le, le_of_suc-le-suc, not-suc-le-zero}
+use Rattle.numbers.proofs.Kit.{◌≡◌, refl, sym, ap, ap₂, ◌∙◌, subst, ◌⊎◌, inl, inr, List, ℕ, zero, suc, ◌+◌, ◌*◌, ◌-◌, ◌/◌, ◌%◌, ◌^◌, ◌≤◌, ◌<◌, mul-le-mul_right}
+use Rattle.numbers.proofs.Kit.{mul-le-mul_left, zero-mul, div-add-mod', mod-lt, mod-eq_of_lt, div-lt_iff_lt-mul, eq-or-lt_of_le, le_of_suc-le-suc, not-suc-le-zero}
 use Rattle.numbers.proofs.Kit.{arith, length, get_or, ext_get_or, ℤ, ◌+ℤ◌, ◌*ℤ◌, +ℤ_assoc}
 use Rattle.numbers.specs.Reduce.{signed, reduce, sumℤ}
 use Rattle.numbers.proofs.ReduceLaws.{sumℤ-add, sumℤ-cong, reduce-lt, accumulate}
 use Rattle.numbers.specs.Tile.{get_le, byte_of, put_tile, In}
 use Rattle.numbers.proofs.TileLaws.{length-put_tile, put_tile-out, put_tile-at, put_tile-le, put_tile-keeps, put_tile-rows, pitched}
-use Rattle.numbers.proofs.PutLaws.{put_tile-low}
+use Rattle.numbers.proofs.PutLaws.{put_tile-low, put_tile-none}
 use Rattle.numbers.proofs.ElementLaws.{pow-256}
 use Rattle.numbers.proofs.BlockLaws.{le-or-lt}
 use Rattle.machine.specs.ArithmeticWords.{product}
+use Rattle.unit_arithmetic.specs.declared.product.Product.{Product}
+use Rattle.unit_arithmetic.specs.Products.{terms_from, columns_from, rows_from, LiesIn}
 
 -- ---- two lists that agree on a tile's bytes and outside it
 
@@ -213,12 +215,12 @@ module _ (rule : Rule) (cw w pitch cpitch k a b c m : ℕ) (s : List ℕ) (joins
   abbrev pub column_ruled : ℕ → ℕ → ℕ
   column_ruled i = rule_row rule s cw w pitch k (a + i * pitch) b (c + i * cpitch)
 
-  pub column-turn : (n o from to : ℕ) (r out : List ℕ) → (n + o) * w ≤ pitch → (n + o) * cw ≤ cpitch → c + m * cpitch ≤ length s
-      → a + m * pitch ≤ c → k * w ≤ pitch → b + k * pitch ≤ c → from ≡ b + n * w → to ≡ c + n * cw
+  pub column-turn : (n o from to : ℕ) (r out : List ℕ) → (n + o) * w ≤ pitch → (n + o) * cw ≤ cpitch → c + m * cpitch + (n + o) * cw ≤ length s + cpitch
+      → a + m * pitch + k * w ≤ c + pitch → b + k * pitch ≤ c → from ≡ b + n * w → to ≡ c + n * cw
       → r ≡ put_tile (λ i. c + i * cpitch) m n cw column_ruled s
       → out ≡ put_tile (λ i. to + i * cpitch) m o cw (λ i. rule_row rule r cw w pitch k (a + i * pitch) from (to + i * cpitch)) r
       → out ≡ put_tile (λ i. c + i * cpitch) m (n + o) cw column_ruled s
-  column-turn n o from to r out narrow wide room apart-a row apart-b ef et er eo =
+  column-turn n o from to r out narrow wide room apart-a apart-b ef et er eo =
       eo ∙ put_tile-rows (λ i. to + i * cpitch) (λ i. c + n * cw + i * cpitch) m o cw (λ i. rule_row rule r cw w pitch k (a + i * pitch) from (to + i * cpitch)) r (λ i li. omega (arith, et))
       ∙ put_tile-low cw (λ i. c + n * cw + i * cpitch) m o (λ i. rule_row rule r cw w pitch k (a + i * pitch) from (to + i * cpitch)) (λ i j. column_ruled i (n + j)) r
       (λ i j li lj. ap (λ (x : ℕ). x % 256 ^ cw) (same i j li lj))
@@ -244,42 +246,113 @@ module _ (rule : Rule) (cw w pitch cpitch k a b c m : ℕ) (s : List ℕ) (joins
           ap (λ (v : ℕ). rule k v (λ l. get_le r (a + i * pitch + l * w) w) (λ l. get_le r (from + l * pitch + j * w) w)) (old i j li lj)
           ∙ joins.reads k (get_le s (c + i * cpitch + (n + j) * cw) cw) (λ l. get_le r (a + i * pitch + l * w) w) (λ l. get_le r (from + l * pitch + j * w) w)
           (λ l. get_le s (a + i * pitch + l * w) w) (λ l. get_le s (b + l * pitch + (n + j) * w) w)
-          (λ l ll. kept (a + i * pitch + l * w) w (omega (arith, row, mul-le-mul_right w ll, mul-le-mul_right pitch li)))
+          (λ l ll. kept (a + i * pitch + l * w) w (omega (arith, apart-a, mul-le-mul_right w ll, mul-le-mul_right pitch li)))
           (λ l ll. kept (from + l * pitch + j * w) w (omega (arith, ef, mul-le-mul_right w lj, mul-le-mul_right pitch ll))
           ∙ ap (λ (p : ℕ). get_le s p w) (omega (arith, ef)))
 
--- ---- for code: a block lies where its tile does
+-- ---- parts of a product lie where it does
 
-pub record Terms (a b c pitch w m l o : ℕ) : Type 0 where
-  pub from-ends : a + l * w + m * pitch + o * w ≤ c + pitch
-  pub row_ends : b + l * pitch + o * pitch ≤ c
-  pub narrow : o * w ≤ pitch
-  pub from-small : l * w + o * w ≤ pitch
-  pub row_small : l * pitch + o * pitch ≤ c
+pub terms-lie : (p : Product) (w cw len l k : ℕ) → LiesIn p w cw len → l + k ≤ p.k → LiesIn (terms_from p l k w) w cw len
+terms-lie p w cw len l k h e =
+    let x : (l + k) * w ≤ p.k * w = mul-le-mul_right w e in
+    let y : (l + k) * p.pitch ≤ p.k * p.pitch = mul-le-mul_right p.pitch e in
+    record {
+      pitch-bound = h.pitch-bound;
+      terms-bound = omega arith;
+      columns-bound = h.columns-bound;
+      a-row = omega arith;
+      b-row = h.b-row;
+      c-row = h.c-row;
+      a-before = omega arith;
+      b-before = omega arith;
+      c-inside = h.c-inside;
+      c-ends = h.c-ends;
+    }
 
-pub terms-fit : (a b c pitch w m k l o : ℕ) → l + o ≤ k → k * w ≤ pitch → a + m * pitch + k * w ≤ c + pitch → b + k * pitch ≤ c → Terms a b c pitch w m l o
-terms-fit a b c pitch w m k l o h row apart-a apart-b =
-    let x : (l + o) * w ≤ k * w = mul-le-mul_right w h in
-    let y : (l + o) * pitch ≤ k * pitch = mul-le-mul_right pitch h in
-    record { from-ends = omega arith; row_ends = omega arith; narrow = omega arith; from-small = omega arith; row_small = omega arith }
-
-pub record Columns (b c pitch cpitch w cw m k len j o : ℕ) : Type 0 where
-  pub narrow : o * w ≤ pitch
-  pub wide : o * cw ≤ cpitch
-  pub from-ends : b + j * w + k * pitch ≤ c + j * cw
-  pub to_inside : c + j * cw ≤ len
-  pub to-ends : c + j * cw + m * cpitch + o * cw ≤ len + cpitch
-  pub both-narrow : (j + o) * w ≤ pitch
-  pub both-wide : (j + o) * cw ≤ cpitch
-
-pub columns-fit : (b c pitch cpitch w cw m k n len j o : ℕ) → j + o ≤ n → w ≤ cw → n * w ≤ pitch → n * cw ≤ cpitch → b + k * pitch ≤ c → zero < m
-    → c + m * cpitch ≤ len → Columns b c pitch cpitch w cw m k len j o
-columns-fit b c pitch cpitch w cw m k n len j o h wider narrow wide apart-b 0<m room =
-    let x : (j + o) * w ≤ n * w = mul-le-mul_right w h in
-    let y : (j + o) * cw ≤ n * cw = mul-le-mul_right cw h in
+pub columns-lie : (p : Product) (w cw len j n : ℕ) → LiesIn p w cw len → w ≤ cw → zero < p.m → j + n ≤ p.n → LiesIn (columns_from p j n w cw) w cw len
+columns-lie p w cw len j n h wider 0<m e =
+    let x : (j + n) * w ≤ p.n * w = mul-le-mul_right w e in
+    let y : (j + n) * cw ≤ p.n * cw = mul-le-mul_right cw e in
     let z : j * w ≤ j * cw = mul-le-mul_left j wider in
-    let g : 1 * cpitch ≤ m * cpitch = mul-le-mul_right cpitch 0<m in
-    record { narrow = omega arith; wide = omega arith; from-ends = omega arith; to_inside = omega arith; to-ends = omega arith; both-narrow = omega arith; both-wide = omega arith }
+    let g : 1 * (4 * p.pitch) ≤ p.m * (4 * p.pitch) = mul-le-mul_right (4 * p.pitch) 0<m in
+    record {
+      pitch-bound = h.pitch-bound;
+      terms-bound = h.terms-bound;
+      columns-bound = omega arith;
+      a-row = h.a-row;
+      b-row = omega arith;
+      c-row = omega arith;
+      a-before = omega arith;
+      b-before = omega arith;
+      c-inside = omega arith;
+      c-ends = omega arith;
+    }
+
+pub rows-lie : (p : Product) (w cw len i m : ℕ) → LiesIn p w cw len → zero < m → i + m ≤ p.m → LiesIn (rows_from p i m) w cw len
+rows-lie p w cw len i m h 0<m e =
+    let x : (i + m) * p.pitch ≤ p.m * p.pitch = mul-le-mul_right p.pitch e in
+    let y : (i + m) * (4 * p.pitch) ≤ p.m * (4 * p.pitch) = mul-le-mul_right (4 * p.pitch) e in
+    let z : 1 * (4 * p.pitch) ≤ m * (4 * p.pitch) = mul-le-mul_right (4 * p.pitch) 0<m in
+    record {
+      pitch-bound = h.pitch-bound;
+      terms-bound = h.terms-bound;
+      columns-bound = h.columns-bound;
+      a-row = h.a-row;
+      b-row = h.b-row;
+      c-row = h.c-row;
+      a-before = omega arith;
+      b-before = omega arith;
+      c-inside = omega arith;
+      c-ends = omega arith;
+    }
+
+-- ---- a product in parts, by a rule
+
+abbrev pub first_terms : Product → ℕ → Product
+first_terms p k = record { a = p.a; b = p.b; c = p.c; pitch = p.pitch; m = p.m; k = k; n = p.n }
+
+abbrev pub first_columns : Product → ℕ → Product
+first_columns p n = record { a = p.a; b = p.b; c = p.c; pitch = p.pitch; m = p.m; k = p.k; n = n }
+
+-- what the product of elements of w bytes leaves, those of C of cw bytes
+abbrev pub ruled_added : Rule → Product → (w cw : ℕ) → List ℕ → List ℕ
+ruled_added rule p w cw s =
+    put_tile (λ i. p.c + i * (4 * p.pitch)) p.m p.n cw (λ i. rule_row rule s cw w p.pitch p.k (p.a + i * p.pitch) p.b (p.c + i * (4 * p.pitch))) s
+
+module _ (rule : Rule) (w cw : ℕ) (joins : Joins cw rule) (p : Product) (s r out : List ℕ) (q : Product) (lies : LiesIn p w cw (length s)) where
+  -- k more of the terms, after l of them or none
+  pub terms-added : (l k t : ℕ) → l + k ≡ t → t ≤ p.k → ((l ≡ 0) × (r ≡ s)) ⊎ (r ≡ ruled_added rule (first_terms p l) w cw s)
+      → q ≡ terms_from p l k w → out ≡ ruled_added rule q w cw r → out ≡ ruled_added rule (first_terms p t) w cw s
+  terms-added l k t et ht er eq eo =
+      let h : l + k ≤ p.k = omega arith in
+      let x : (l + k) * w ≤ p.k * w = mul-le-mul_right w h in
+      let y : (l + k) * p.pitch ≤ p.k * p.pitch = mul-le-mul_right p.pitch h in
+      term-next rule cw w p.pitch (4 * p.pitch) p.n p.a p.b p.c p.m s joins lies.b-row lies.c-row lies.c-ends l k (p.a + l * w) (p.b + l * p.pitch) r out
+      (omega (arith, lies.a-before)) (omega (arith, lies.b-before)) refl refl er (eo ∙ ap (λ (q : Product). ruled_added rule q w cw r) eq)
+      ∙ ap (λ (t : ℕ). ruled_added rule (first_terms p t) w cw s) et
+
+  -- n more of the columns, after j of them
+  pub columns-added : (j n t : ℕ) → j + n ≡ t → t ≤ p.n → r ≡ ruled_added rule (first_columns p j) w cw s
+      → q ≡ columns_from p j n w cw → out ≡ ruled_added rule q w cw r → out ≡ ruled_added rule (first_columns p t) w cw s
+  columns-added j n t et ht er eq eo =
+      let h : j + n ≤ p.n = omega arith in
+      let x : (j + n) * w ≤ p.n * w = mul-le-mul_right w h in
+      let y : (j + n) * cw ≤ p.n * cw = mul-le-mul_right cw h in
+      column-turn rule cw w p.pitch (4 * p.pitch) p.k p.a p.b p.c p.m s joins j n (p.b + j * w) (p.c + j * cw) r out
+      (omega (arith, lies.b-row)) (omega (arith, lies.c-row)) (omega (arith, lies.c-ends)) lies.a-before lies.b-before refl refl er
+      (eo ∙ ap (λ (q : Product). ruled_added rule q w cw r) eq)
+      ∙ ap (λ (t : ℕ). ruled_added rule (first_columns p t) w cw s) et
+
+-- no column, and no row
+module _ (rule : Rule) (w cw : ℕ) (p : Product) (s : List ℕ) where
+  pub columns-none : s ≡ ruled_added rule (first_columns p 0) w cw s
+  columns-none =
+      put_tile-none (λ i. p.c + i * (4 * p.pitch)) p.m 0 cw (λ i. rule_row rule s cw w p.pitch p.k (p.a + i * p.pitch) p.b (p.c + i * (4 * p.pitch))) s (zero-mul cw)
+
+  pub rows-none : p.m ≡ 0 → s ≡ ruled_added rule p w cw s
+  unfolding put_tile
+  rows-none e =
+      ap (λ (m : ℕ). put_tile (λ i. p.c + i * (4 * p.pitch)) m p.n cw (λ i. rule_row rule s cw w p.pitch p.k (p.a + i * p.pitch) p.b (p.c + i * (4 * p.pitch))) s) (sym e)
 
 -- products of signed numbers
 pub product-joins : (cw w : ℕ) → Joins cw (product cw w)

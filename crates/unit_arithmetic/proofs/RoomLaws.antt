@@ -1,18 +1,16 @@
 -- Where the tiles lie in the registers.
-use Rattle.numbers.proofs.Kit.{◌≡◌, inl, inr, ℕ, zero, suc, ◌+◌, ◌*◌, ◌≤◌, ◌<◌, mul-le-mul_right, arith}
+use Rattle.numbers.proofs.Kit.{inl, inr, ℕ, zero, suc, ◌+◌, ◌*◌, ◌≤◌, ◌<◌, mul-le-mul_right, arith}
 use Rattle.machine.specs.Geometry.{acc_at}
-use Rattle.numbers.specs.Bounds.{most_pitch, most_size}
+use Rattle.numbers.specs.Bounds.{most_pitch}
 use Rattle.unit_element.specs.Element.{Width}
-use Rattle.unit_element.proofs.Laws.{width_small}
+use Rattle.unit_arithmetic.specs.declared.Tiles.{Tiles}
 use Rattle.unit_arithmetic.specs.Effect.{shape}
+use Rattle.unit_arithmetic.specs.Products.{LiesIn}
+use Rattle.unit_arithmetic.specs.Tiles.{Registers, product_of}
 
 -- a row of an accumulator lies in the registers
 pub acc-row : (rows pitch a i : ℕ) → a < 2 → i < rows → acc_at (shape rows pitch) a i + 4 * pitch ≤ 16 * (rows * pitch)
 acc-row rows pitch a i la li = omega (arith, mul-le-mul_right (4 * pitch) li, mul-le-mul_right (rows * pitch) la)
-
--- columns of f times w bytes fit an accumulator's row
-pub columns : (f w n pitch : ℕ) → f ≤ 4 → n * w ≤ pitch → (n * w ≤ 4 * pitch) × (n * (f * w) ≤ 4 * pitch)
-columns f w n pitch hf h = (omega arith, omega (arith, mul-le-mul_right (n * w) hf))
 
 -- the output is no narrower
 pub wider : (f w : ℕ) → Width (f * w) → w ≤ f * w
@@ -28,23 +26,24 @@ wider (suc f) w h = omega arith
 in-eight : (r e z : ℕ) → r < 8 → e ≤ z → r * z + e ≤ 8 * z
 in-eight r e z h l = omega (arith, mul-le-mul_right z h)
 
--- the bounds of a product's three tiles
-pub record Room (rows pitch f w d a b m k n len : ℕ) : Type 0 where
-  pub a-ends : a * (rows * pitch) + m * pitch ≤ 8 * (rows * pitch)
-  pub b-ends : b * (rows * pitch) + k * pitch ≤ 8 * (rows * pitch)
-  pub c-ends : (8 + 4 * d) * (rows * pitch) + m * (4 * pitch) ≤ len
-  pub c-row : n * (f * w) ≤ 4 * pitch
-  pub narrow : f * w ≤ 8
-  pub size : len ≤ 16 * most_size
-
-pub room : (rows pitch f w d a b m k n len : ℕ) → (d < 2) × ((a < 8) × (b < 8)) → (rows * pitch ≤ most_size) × ((pitch ≤ most_pitch) × (len ≡ 16 * (rows * pitch)))
-    → Width (f * w) → f ≤ 4 → (m ≤ rows) × ((k ≤ rows) × (k ≤ most_pitch)) → (n ≤ most_pitch) × ((n * w ≤ pitch) × (k * w ≤ pitch))
-    → Room rows pitch f w d a b m k n len
-room rows pitch f w d a b m k n len regs bytes wide lf sizes cols = record {
-  a-ends = in-eight a (m * pitch) (rows * pitch) regs.1.0 (mul-le-mul_right pitch sizes.0);
-  b-ends = in-eight b (k * pitch) (rows * pitch) regs.1.1 (mul-le-mul_right pitch sizes.1.0);
-  c-ends = omega (arith, mul-le-mul_right (rows * pitch) regs.0, mul-le-mul_right pitch sizes.0, bytes);
-  c-row = omega (arith, mul-le-mul_right (n * w) lf, cols);
-  narrow = width_small (f * w) wide;
-  size = omega (arith, bytes);
-}
+-- the three tiles of a product lie one after another in the registers
+pub product-lies : (t : Tiles) (f w d a b len : ℕ) → (d < 2) × ((a < 8) × (b < 8)) → Registers t len → f ≤ 4 → (t.m ≤ t.rows) × ((t.k ≤ t.rows) × (t.k ≤ most_pitch))
+    → (t.n ≤ most_pitch) × ((t.n * w ≤ t.pitch) × (t.k * w ≤ t.pitch)) → LiesIn (product_of t d a b) w (f * w) len
+product-lies t f w d a b len regs bytes lf sizes cols =
+    let size : ℕ = t.rows * t.pitch in
+    let x : a * size + t.m * t.pitch ≤ 8 * size = in-eight a (t.m * t.pitch) size regs.1.0 (mul-le-mul_right t.pitch sizes.0) in
+    let y : b * size + t.k * t.pitch ≤ 8 * size = in-eight b (t.k * t.pitch) size regs.1.1 (mul-le-mul_right t.pitch sizes.1.0) in
+    let z : (8 + 4 * d) * size + t.m * (4 * t.pitch) ≤ len = omega (arith, mul-le-mul_right size regs.0, mul-le-mul_right t.pitch sizes.0, bytes) in
+    let wide : t.n * (f * w) ≤ 4 * t.pitch = omega (arith, mul-le-mul_right (t.n * w) lf, cols) in
+    record {
+      pitch-bound = bytes.1.0;
+      terms-bound = sizes.1.1;
+      columns-bound = cols.0;
+      a-row = cols.1.1;
+      b-row = cols.1.0;
+      c-row = wide;
+      a-before = omega (arith, cols);
+      b-before = omega arith;
+      c-inside = omega arith;
+      c-ends = omega arith;
+    }

@@ -13,9 +13,9 @@ use Rattle.machine.specs.declared.Sum.{Sum}
 use Rattle.machine.specs.declared.Sum.TheVariants.{Add, Subtract, ReverseSubtract}
 use Rattle.machine.specs.Geometry.{Parameters, acc_at}
 use Rattle.machine.specs.ArithmeticWords.{sum_of, sum_at, scaled_at}
-use Rattle.unit_element.specs.Element.{Width}
 use Rattle.unit_arithmetic.specs.Effect.{shape, combine_tile, scale_tile}
-use Rattle.unit_arithmetic.specs.Weights.{weighted_tile, Aligned}
+use Rattle.unit_arithmetic.specs.Weights.{weight_d, weight_a, weighed, weighted_tile, Aligned}
+use Rattle.unit_arithmetic.specs.declared.weights.Weights.{Weights}
 use Rattle.unit_arithmetic.proofs.BlockLaws.{tile-ext}
 use Rattle.unit_sums.specs.Rows.{signed_le, weighted_row}
 
@@ -99,7 +99,11 @@ row_before p o n w v s room =
             put_row-out p o w v r (p + j * w + b) (λ x. omega (arith, x, mul-le-mul_right w l))
             ∙ subst (λ (q : ℕ). get_or r q 0 ≡ byte_of (v j) b) e (put_row-at (p + o * w) n w v' s (omega arith) t (omega arith) b lb ∙ ap (λ (u : ℕ). byte_of (v u) b) et)
 
--- from column j on the row has its sums, and one block more before it
+-- from column j on, the row at `to` has its weighted sums
+abbrev pub weighed_from : Weights → List ℕ → (from to n j : ℕ) → List ℕ
+weighed_from w s from to n j = put_row (to + j * w.wide) (n - j) w.wide (λ t. weighed w s from to (j + t)) s
+
+-- it has them from column j on, and one block more before it
 pub block-turn : (from to w cw x y n j o : ℕ) (s r out : List ℕ) → w ≤ cw → j + o ≤ n → to + n * cw ≤ length s → Aligned from to (n * w) (n * cw)
     → r ≡ put_row (to + (j + o) * cw) (n - (j + o)) cw (λ t. weighted_row s from to w cw x y (j + o + t)) s
     → out ≡ put_row (to + j * cw) o cw (weighted_row r (from + j * w) (to + j * cw) w cw x y) r
@@ -163,17 +167,6 @@ acc-aligned rows pitch d a i n o ld la li hn ho = go (le-or-lt a d) (le-or-lt d 
 
 -- ---- the element-wise instructions
 
--- the weights of md and of ms1
-abbrev pub weight_d : Sum → ℤ
-weight_d Add = pos 1
-weight_d Subtract = pos 1
-weight_d ReverseSubtract = negsuc 0
-
-abbrev pub weight_a : Sum → ℤ
-weight_a Add = pos 1
-weight_a Subtract = negsuc 0
-weight_a ReverseSubtract = pos 1
-
 once : (z : ℤ) → pos 1 *ℤ z ≡ z
 unfolding one
 once z = *ℤ_comm (pos 1) z ∙ *ℤ-one z
@@ -186,19 +179,6 @@ sum-weights : (o : Sum) (d a : ℤ) → weight_d o *ℤ d +ℤ weight_a o *ℤ a
 sum-weights Add d a = ap₂ ◌+ℤ◌ (once d) (once a)
 sum-weights Subtract d a = ap₂ ◌+ℤ◌ (once d) (minus a)
 sum-weights ReverseSubtract d a = ap₂ ◌+ℤ◌ (minus d) (once a) ∙ +ℤ_comm (neg_ℤ d) a
-
--- the code's weights, at each width: 1 and, as 2 ^ 64 - 1, minus 1
-pub weight-one : (w : ℕ) → Width w → signed (256 ^ w) (1 % 256 ^ w) ≡ pos 1
-weight-one w (inl e) = rw e
-weight-one w (inr (inl e)) = rw e
-weight-one w (inr (inr (inl e))) = rw e
-weight-one w (inr (inr (inr e))) = rw e
-
-pub weight-minus : (w : ℕ) → Width w → signed (256 ^ w) (0xffff_ffff_ffff_ffff % 256 ^ w) ≡ negsuc 0
-weight-minus w (inl e) = rw e
-weight-minus w (inr (inl e)) = rw e
-weight-minus w (inr (inr (inl e))) = rw e
-weight-minus w (inr (inr (inr e))) = rw e
 
 -- the weights 0 and the residue y of z
 scaled : (m : ℕ) → zero < m → (D A z : ℤ) (x y : ℕ) → x ≡ reduce m (pos 0) → y ≡ reduce m z → reduce m (signed m x *ℤ D +ℤ signed m y *ℤ A) ≡ reduce m (A *ℤ z)

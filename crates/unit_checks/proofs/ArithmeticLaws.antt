@@ -4,9 +4,7 @@ use Rattle.numbers.proofs.Kit.{min, mul-le-mul, one-mul, mul-le-mul_right, div-m
 use Rattle.numbers.proofs.Kit.{leb-true, eq-eqb, ne_eqb}
 use Rattle.machine.specs.declared.Machine.{Machine}
 use Rattle.machine.specs.declared.Matrix.TheVariants.{MatrixA, MatrixB, MatrixC}
-use Rattle.machine.specs.declared.Answer.{Answer}
-use Rattle.machine.specs.declared.Answer.TheVariants.{Done}
-use Rattle.machine.specs.Answers.{Check, verdict, is_done}
+use Rattle.machine.specs.Answers.{Check, verdict, is_done, Answer, Done}
 use Rattle.machine.specs.Setting.{sew}
 use Rattle.machine.specs.Refusals.{needs}
 use Rattle.machine.proofs.CheckLaws.{Passed, passed}

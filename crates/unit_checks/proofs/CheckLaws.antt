@@ -1,6 +1,6 @@
 -- The checks of each family: the width rule of arithmetic, registers, mtype once answer 2 has passed, and checks made in parts.
 use Rattle.numbers.proofs.Kit.{◌≡◌, refl, sym, ap, ◌∙◌, subst, Bool, true, false, cond, not, List, ◌++◌, ℕ, ◌+◌, ◌*◌, ◌/◌, ◌^◌, ◌≤◌, ◌<◌, arith}
-use Rattle.numbers.proofs.Kit.{leb, not-true, eq-eqb, ne_eqb, le-leb, lt-leb, leb-true}
+use Rattle.numbers.proofs.Kit.{leb, not-true, eq-eqb, ne_eqb, le-leb, lt-leb, leb-true, Err}
 use Rattle.machine.specs.declared.Machine.{Machine}
 use Rattle.machine.specs.Tests.{is_in}
 use Rattle.machine.proofs.TestLaws.{each_in}
@@ -10,10 +10,9 @@ use Rattle.machine.specs.Setting.{sew, mill, maccq}
 use Rattle.machine.specs.ArithmeticWords.{width_ok}
 use Rattle.machine.proofs.CodeLaws.{verdict-append}
 use Rattle.unit_settings.proofs.TypeLaws.{ready-elen, ready-legal}
-use Rattle.machine.specs.declared.Answer.{Answer}
-use Rattle.machine.specs.declared.Answer.TheVariants.{IllegalType, BadWidth}
+use Rattle.machine.specs.declared.Refusal.TheVariants.{IllegalType, BadWidth}
 use Rattle.machine.proofs.CheckLaws.{passed, refusals}
-use Rattle.machine.specs.Answers.{Check, verdict, is_done}
+use Rattle.machine.specs.Answers.{Check, verdict, is_done, Answer}
 use Rattle.unit_settings.specs.Parts.{legal_types, Ready}
 use Rattle.unit_checks.specs.Parts.{multiply_checks, elementwise_checks, product_checks, float_checks}
 
@@ -43,10 +42,10 @@ module _ (elen t s : ℕ) (e : s ≡ sew t) where
 -- ---- a float multiply
 
 module _ (m : Machine) (marks : List ℕ) (d a b : ℕ) where
-  pub float_type : mill m.mtype ≡ true → IllegalType ≡ verdict (float_checks m marks d a b)
+  pub float_type : mill m.mtype ≡ true → (Err IllegalType) ≡ verdict (float_checks m marks d a b)
   float_type h = rw h
 
-  pub float-width : mill m.mtype ≡ false → ¬ (sew m.mtype ≡ 4) → BadWidth ≡ verdict (float_checks m marks d a b)
+  pub float-width : mill m.mtype ≡ false → ¬ (sew m.mtype ≡ 4) → (Err BadWidth) ≡ verdict (float_checks m marks d a b)
   float-width h w = rw (h, ne_eqb (8 * sew m.mtype) 32 (λ e. w (omega arith)))
 
   -- at SEW 32 it is refused exactly as a multiply of single width is

@@ -3,7 +3,7 @@ use Rattle.std.specs.Prelude.{◌≡◌, ◌∷◌, ◌++◌, ◌*◌, ◌/◌, 
 use Rattle.numbers.specs.Kit.{Bool, false, List, [], ℕ, eqb, length}
 use Rattle.machine.specs.declared.Machine.{Machine}
 use Rattle.machine.specs.declared.Dimension.TheVariants.{DimensionM, DimensionK, DimensionN}
-use Rattle.machine.specs.declared.Answer.TheVariants.{BadWidth}
+use Rattle.machine.specs.declared.Refusal.TheVariants.{BadWidth}
 use Rattle.machine.specs.Geometry.{state_of, start_of, pitch_of, tile_at, acc_at}
 use Rattle.machine.specs.Setting.{sew}
 use Rattle.machine.specs.Operation.{Operation, rows_of, columns_of, tile_rows, tile_cols}

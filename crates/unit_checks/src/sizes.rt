@@ -10,7 +10,7 @@ ghost use Rattle.unit_settings.specs.Parts.{Ready, legal_types};
 ghost use Rattle.unit_checks.specs.Parts.{transfer_checks, elementwise_checks, multiply_checks};
 ghost use Rattle.machine.specs.Tests.{is_in};
 
-use machine::{Answer, Dimension, Factor, Machine, Matrix};
+use machine::{Answer, Dimension, Factor, Machine, Matrix, Refusal};
 use unit_settings::{fits, is_mill, sew_bytes};
 
 fn is_maccq(mtype: u64) -> bool
@@ -97,18 +97,18 @@ pub fn check_transfer(m: Machine, matrix: Matrix, width: usize) -> Answer
     ensures { result ≡ verdict (transfer_checks m matrix width) }
 {
     if is_mill(m.mtype) {
-        return Answer::IllegalType;
+        return Err(Refusal::IllegalType);
     }
     if !transfer_width(m.elen, m.mtype, matrix, width) {
-        return Answer::BadWidth;
+        return Err(Refusal::BadWidth);
     }
     if !fits(m, rows_of(matrix)) {
-        return Answer::TileTooLarge;
+        return Err(Refusal::TileTooLarge);
     }
     if !fits(m, columns_of(matrix)) {
-        return Answer::TileTooLarge;
+        return Err(Refusal::TileTooLarge);
     }
-    Answer::Done
+    Ok(())
 }
 
 // Answers 2 to 4 of an element-wise instruction.
@@ -117,18 +117,18 @@ pub fn check_elementwise(m: Machine, factor: Factor) -> Answer
     ensures { result ≡ verdict (elementwise_checks m (times factor)) }
 {
     if is_mill(m.mtype) {
-        return Answer::IllegalType;
+        return Err(Refusal::IllegalType);
     }
     if !factor_width(m.elen, m.mtype, factor) {
-        return Answer::BadWidth;
+        return Err(Refusal::BadWidth);
     }
     if !fits(m, Dimension::DimensionM) {
-        return Answer::TileTooLarge;
+        return Err(Refusal::TileTooLarge);
     }
     if !fits(m, Dimension::DimensionN) {
-        return Answer::TileTooLarge;
+        return Err(Refusal::TileTooLarge);
     }
-    Answer::Done
+    Ok(())
 }
 
 // Answers 2 to 4 of a multiply.
@@ -137,19 +137,19 @@ pub fn check_multiply(m: Machine, factor: Factor) -> Answer
     ensures { result ≡ verdict (multiply_checks m (times factor)) }
 {
     if is_mill(m.mtype) {
-        return Answer::IllegalType;
+        return Err(Refusal::IllegalType);
     }
     if !factor_width(m.elen, m.mtype, factor) {
-        return Answer::BadWidth;
+        return Err(Refusal::BadWidth);
     }
     if !fits(m, Dimension::DimensionM) {
-        return Answer::TileTooLarge;
+        return Err(Refusal::TileTooLarge);
     }
     if !fits(m, Dimension::DimensionK) {
-        return Answer::TileTooLarge;
+        return Err(Refusal::TileTooLarge);
     }
     if !fits(m, Dimension::DimensionN) {
-        return Answer::TileTooLarge;
+        return Err(Refusal::TileTooLarge);
     }
-    Answer::Done
+    Ok(())
 }

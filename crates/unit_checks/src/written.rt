@@ -5,7 +5,7 @@ ghost use Rattle.machine.specs.Operation.{times};
 ghost use Rattle.unit_checks.specs.Parts.{multiply_checks, MarksReady, AccumulatorFits, source_checks, accumulator_check, product_checks, target_checks, float_checks, combine_checks, scale_checks};
 
 use super::sizes::{check_elementwise, check_multiply};
-use machine::{Answer, Factor, Machine, Matrix};
+use machine::{Answer, Factor, Machine, Matrix, Refusal};
 use unit_geometry::{factor_of, tile_of};
 use unit_settings::{is_mill, sew_bytes};
 
@@ -17,17 +17,14 @@ fn source_marks(m: Machine, marks: &[u8], factor: Factor, ms1: usize, ms2: usize
     ensures { result ≡ verdict (source_checks m marks.now ms1 ms2) }
 {
     if m.tile_m == 0 {
-        return Answer::Done;
+        return Ok(());
     }
     if m.tile_n == 0 {
-        return Answer::Done;
+        return Ok(());
     }
     let w = sew_bytes(m.mtype);
     let a = tile_of(m, Matrix::MatrixA, ms1);
-    let first = unit_tile::first_unmarked(marks, a.start, a.pitch, a.rows, a.columns, w);
-    if !unit_answers::is_done(first) {
-        return first;
-    }
+    unit_tile::first_unmarked(marks, a.start, a.pitch, a.rows, a.columns, w)?;
     let b = tile_of(m, Matrix::MatrixB, ms2);
     unit_tile::first_unmarked(marks, b.start, b.pitch, b.rows, b.columns, w)
 }
@@ -55,14 +52,8 @@ pub fn check_product(
     requires md_bound { (md < 2) × ((ms1 < 8) × (ms2 < 8)) }
     ensures { result ≡ verdict (product_checks m marks.now (times factor) md ms1 ms2) }
 {
-    let fitting = check_multiply(m, factor);
-    if !unit_answers::is_done(fitting) {
-        return fitting;
-    }
-    let sources = source_marks(m, marks, factor, ms1, ms2);
-    if !unit_answers::is_done(sources) {
-        return sources;
-    }
+    check_multiply(m, factor)?;
+    source_marks(m, marks, factor, ms1, ms2)?;
     let wide = factor_of(factor) * sew_bytes(m.mtype);
     accumulator_marks(m, marks, md, wide)
 }
@@ -73,10 +64,7 @@ pub fn check_target(m: Machine, marks: &[u8], factor: Factor, md: usize) -> Answ
     requires md_bound { md < 2 }
     ensures { result ≡ verdict (target_checks m marks.now (times factor) md) }
 {
-    let fitting = check_multiply(m, factor);
-    if !unit_answers::is_done(fitting) {
-        return fitting;
-    }
+    check_multiply(m, factor)?;
     let wide = factor_of(factor) * sew_bytes(m.mtype);
     accumulator_marks(m, marks, md, wide)
 }
@@ -87,15 +75,9 @@ pub fn check_combine(m: Machine, marks: &[u8], factor: Factor, md: usize, ms1: u
     requires md_bound { (md < 2) × (ms1 < 2) }
     ensures { result ≡ verdict (combine_checks m marks.now (times factor) md ms1) }
 {
-    let fitting = check_elementwise(m, factor);
-    if !unit_answers::is_done(fitting) {
-        return fitting;
-    }
+    check_elementwise(m, factor)?;
     let width = sew_bytes(m.mtype);
-    let source = accumulator_marks(m, marks, ms1, width);
-    if !unit_answers::is_done(source) {
-        return source;
-    }
+    accumulator_marks(m, marks, ms1, width)?;
     let wide = factor_of(factor) * width;
     accumulator_marks(m, marks, md, wide)
 }
@@ -106,12 +88,9 @@ pub fn check_scale(m: Machine, marks: &[u8], factor: Factor, ms1: usize, by_zero
     requires ms1_bound { ms1 < 2 }
     ensures { result ≡ verdict (scale_checks m marks.now (times factor) ms1 by_zero) }
 {
-    let fitting = check_elementwise(m, factor);
-    if !unit_answers::is_done(fitting) {
-        return fitting;
-    }
+    check_elementwise(m, factor)?;
     if by_zero {
-        return Answer::Done;
+        return Ok(());
     }
     let width = sew_bytes(m.mtype);
     accumulator_marks(m, marks, ms1, width)
@@ -124,10 +103,10 @@ pub fn check_float(m: Machine, marks: &[u8], md: usize, ms1: usize, ms2: usize) 
     ensures { result ≡ verdict (float_checks m marks.now md ms1 ms2) }
 {
     if is_mill(m.mtype) {
-        return Answer::IllegalType;
+        return Err(Refusal::IllegalType);
     }
     if sew_bytes(m.mtype) != 4 {
-        return Answer::BadWidth;
+        return Err(Refusal::BadWidth);
     }
     check_product(m, marks, Factor::Single, md, ms1, ms2)
 }

@@ -1,5 +1,8 @@
--- Widths by cases.
-use Rattle.numbers.proofs.Kit.{◌≡◌, sym, ap, ap₂, ◌∙◌, ⊎_elim, inl, inr, ℕ, ◌+◌, ◌*◌, ◌/◌, ◌%◌, ◌≤◌, div-add-mod', add-mod, add-mul-mod_self_right, arith}
+-- Widths by cases, and sums and products that wrap.
+use Rattle.numbers.proofs.Kit.{◌≡◌, refl, sym, ap, ap₂, ◌∙◌, ⊎_elim, inl, inr, ℕ, ◌+◌, ◌%◌, ◌≤◌, ◌<◌, arith, ◌+ℤ◌, ◌*ℤ◌}
+use Rattle.numbers.specs.Reduce.{signed, reduce}
+use Rattle.numbers.proofs.ReduceLaws.{reduce-add, reduce-signed}
+use Rattle.numbers.proofs.SumLaws.{same_sum, again}
 use Rattle.unit_element.specs.Element.{Width, Short, Narrow}
 
 pub is8 : (w : ℕ) → Width w → (w ≡ 1 → ⊥) → (w ≡ 2 → ⊥) → (w ≡ 4 → ⊥) → w ≡ 8
@@ -18,9 +21,6 @@ width_small w h = ⊎_elim (λ e. omega arith) (λ h. ⊎_elim (λ e. omega arit
 pub short : (w : ℕ) → Width w → w ≤ 4 → Short w
 short w h l = ⊎_elim inl (λ h. inr (⊎_elim inl (λ h. inr (⊎_elim (λ e. e) (λ e. absurd (omega arith)) h)) h)) h
 
-pub not-8 : (w : ℕ) → Width w → (w ≡ 8 → ⊥) → Short w
-not-8 w h a = ⊎_elim inl (λ h. inr (⊎_elim inl (λ h. inr (⊎_elim (λ e. e) (λ e. absurd (a e)) h)) h)) h
-
 pub short-small : (w : ℕ) → Short w → w ≤ 4
 short-small w h = ⊎_elim (λ e. omega arith) (λ h. ⊎_elim (λ e. omega arith) (λ e. omega arith) h) h
 
@@ -34,20 +34,16 @@ narrow w h l = ⊎_elim inl (λ h. ⊎_elim inr (λ e. absurd (omega arith)) h) 
 pub not-4 : (w : ℕ) → Short w → (w ≡ 4 → ⊥) → Narrow w
 not-4 w h a = ⊎_elim inl (λ h. ⊎_elim inr (λ e. absurd (a e)) h) h
 
--- ---- a product modulo 2^64, by halves of 32 bits
+-- ---- sums and products that wrap
 
-half : (u v p : ℕ) → p ≡ u * 0x1_0000_0000 + v → (v + u % 0x1_0000_0000 * 0x1_0000_0000) % 0x1_0000_0000_0000_0000 ≡ p % 0x1_0000_0000_0000_0000
-half u v p h = omega arith
+-- a sum of residues is the residue of the signed sum
+pub wrapping_sum-is : (m : ℕ) → 0 < m → (a b : ℕ) → a < m → b < m → (a + b) % m ≡ reduce m (signed m a +ℤ signed m b)
+wrapping_sum-is m 0<m a b la lb =
+    ap₂ (λ (x y : ℕ). (x + y) % m) (sym (reduce-signed m 0<m a la)) (sym (reduce-signed m 0<m b lb)) ∙ sym (reduce-add m 0<m (signed m a) (signed m b))
 
-halves : (low across across' high p : ℕ) → p ≡ (across + across' + high * 0x1_0000_0000) * 0x1_0000_0000 + low
-    → (low + (across % 0x1_0000_0000 + across' % 0x1_0000_0000) % 0x1_0000_0000 * 0x1_0000_0000) % 0x1_0000_0000_0000_0000 ≡ p % 0x1_0000_0000_0000_0000
-halves low across across' high p h =
-    ap (λ (x : ℕ). (low + x * 0x1_0000_0000) % 0x1_0000_0000_0000_0000) (sym (add-mod across across' 0x1_0000_0000) ∙ sym (add-mul-mod_self_right (across + across') high 0x1_0000_0000))
-    ∙ half (across + across' + high * 0x1_0000_0000) low p h
-
-pub by-halves : (x y : ℕ)
-    → (x % 0x1_0000_0000 * (y % 0x1_0000_0000) + (x / 0x1_0000_0000 * (y % 0x1_0000_0000) % 0x1_0000_0000 + x % 0x1_0000_0000 * (y / 0x1_0000_0000) % 0x1_0000_0000) % 0x1_0000_0000 * 0x1_0000_0000) % 0x1_0000_0000_0000_0000
-    ≡ (x * y) % 0x1_0000_0000_0000_0000
-by-halves x y =
-    halves (x % 0x1_0000_0000 * (y % 0x1_0000_0000)) (x / 0x1_0000_0000 * (y % 0x1_0000_0000)) (x % 0x1_0000_0000 * (y / 0x1_0000_0000)) (x / 0x1_0000_0000 * (y / 0x1_0000_0000)) (x * y)
-    (omega (arith, ap₂ ◌*◌ (sym (div-add-mod' x 0x1_0000_0000)) (sym (div-add-mod' y 0x1_0000_0000))))
+-- the sum r of v and the product p of x and y
+pub sum-of-product : (m : ℕ) → 0 < m → (r v p x y : ℕ) → r ≡ reduce m (signed m v +ℤ signed m p) → p ≡ reduce m (signed m x *ℤ signed m y)
+    → r ≡ reduce m (signed m v +ℤ signed m x *ℤ signed m y)
+sum-of-product m 0<m r v p x y er ep =
+    er ∙ same_sum m 0<m (signed m v) (signed m v) (signed m p) (signed m x *ℤ signed m y) refl
+    (ap (λ (q : ℕ). reduce m (signed m q)) ep ∙ again m 0<m (signed m x *ℤ signed m y))

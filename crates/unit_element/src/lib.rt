@@ -1,10 +1,12 @@
-// Elements of 1, 2, 4 and 8 bytes in a byte slice, low byte first; their sign extension; and products that wrap.
+// Elements of 1, 2, 4 and 8 bytes in a byte slice, low byte first; their sign extension; and sums and products that wrap.
 #![tactic(auto)]
 
-ghost use Rattle.std.specs.Prelude.{◌≡◌, ◌+◌, ◌%◌, ◌^◌, ◌<◌, ◌≤◌, length, ◌*ℤ◌};
+ghost use Rattle.std.specs.Prelude.{◌≡◌, ℕ, ◌+◌, ◌%◌, ◌^◌, ◌<◌, ◌≤◌, length, ◌+ℤ◌, ◌*ℤ◌};
+ghost use Rattle.std.specs.Mem.{type_size};
+ghost use Rattle.std.proofs.Common.{refl, inl, inr};
 ghost use Rattle.numbers.specs.Tile.{get_le, put_le};
 ghost use Rattle.numbers.specs.Reduce.{reduce, signed};
-ghost use Rattle.unit_element.specs.Element.{Width, Short, Narrow};
+ghost use Rattle.unit_element.specs.Element.{Width};
 
 // The columns of the block of a product that is taken at once (numbers/specs/Bounds.antt: most_columns).
 pub const COLUMNS: usize = 64;
@@ -12,256 +14,238 @@ pub const COLUMNS: usize = 64;
 // Its terms (most_terms).
 pub const TERMS: usize = 16;
 
-// The element of one byte that starts at `at`.
-pub fn read1(s: &[u8], at: usize) -> u8
-    requires { at + 1 ≤ length s.now }
-    ensures { (result ≡ get_le s.now at 1) × (result < 256) }
-{
-    s[at]
-}
+// An unsigned integer that an element is read into. It stands for itself, and as a residue for a signed number.
+pub trait Element: Copy {
+    // The number that a value stands for.
+    ghost number: { Self → ℕ };
 
-fn wide16(x: u8) -> u16
-    ensures { (result ≡ x) × (result < 256) }
-{
-    x as u16
-}
+    // The bytes of an element.
+    ghost BYTES: { ℕ };
 
-fn wide32(x: u8) -> u32
-    ensures { (result ≡ x) × (result < 256) }
-{
-    x as u32
-}
+    const BYTES: usize;
 
-// The element of two bytes that starts at `at`.
-pub fn read2(s: &[u8], at: usize) -> u16
-    requires { at + 2 ≤ length s.now }
-    ensures { (result ≡ get_le s.now at 2) × (result < 65536) }
-{
-    wide16(s[at]) + 256 * wide16(s[at + 1])
-}
+    // The low bytes of a number.
+    fn low(v: u64) -> Self
+        ensures { number result ≡ v % 256 ^ BYTES };
 
-// The element of four bytes that starts at `at`.
-pub fn read4(s: &[u8], at: usize) -> u32
-    requires { at + 4 ≤ length s.now }
-    ensures { (result ≡ get_le s.now at 4) × (result < 0x1_0000_0000) }
-{
-    wide32(s[at])
-        + 0x100 * wide32(s[at + 1])
-        + 0x1_0000 * wide32(s[at + 2])
-        + 0x100_0000 * wide32(s[at + 3])
-}
+    // The element that starts at `at`.
+    fn read(s: &[u8], at: usize) -> Self
+        requires { at + BYTES ≤ length s.now }
+        ensures { number result ≡ get_le s.now at BYTES };
 
-fn wide64(x: u8) -> u64
-    ensures { (result ≡ x) × (result < 256) }
-{
-    x as u64
-}
+    // Stores v in the bytes from `at` on.
+    fn write(s: &mut [u8], at: usize, v: Self)
+        requires { at + BYTES ≤ length s.old }
+        ensures { s.new ≡ put_le at BYTES (number v) s.old };
 
-// The element of eight bytes that starts at `at`.
-pub fn read8(s: &[u8], at: usize) -> u64
-    requires { at + 8 ≤ length s.now }
-    ensures { result ≡ get_le s.now at 8 }
-{
-    wide64(s[at])
-        + 0x100 * wide64(s[at + 1])
-        + 0x1_0000 * wide64(s[at + 2])
-        + 0x100_0000 * wide64(s[at + 3])
-        + 0x1_0000_0000 * wide64(s[at + 4])
-        + 0x100_0000_0000 * wide64(s[at + 5])
-        + 0x1_0000_0000_0000 * wide64(s[at + 6])
-        + 0x100_0000_0000_0000 * wide64(s[at + 7])
-}
+    // The residue at 64 bits of the signed number.
+    fn sign_extended(self) -> u64
+        ensures { result ≡ reduce (256 ^ 8) (signed (256 ^ BYTES) (number self)) };
 
-// Stores v in the byte at `at`.
-pub fn write1(s: &mut [u8], at: usize, v: u8)
-    requires { at + 1 ≤ length s.old }
-    ensures { s.new ≡ put_le at 1 v s.old }
-{
-    s[at] = v;
-}
+    // The residue of the signed sum.
+    fn wrapping_sum(self, other: Self) -> Self
+        ensures { number result ≡ reduce (256 ^ BYTES) (signed (256 ^ BYTES) (number self) +ℤ signed (256 ^ BYTES) (number other)) };
 
-// Stores v in two bytes from `at` on.
-pub fn write2(s: &mut [u8], at: usize, v: u16)
-    requires { at + 2 ≤ length s.old }
-    ensures { s.new ≡ put_le at 2 v s.old }
-{
-    s[at] = (v % 256) as u8;
-    s[at + 1] = (v / 256) as u8;
-}
+    // The residue of the signed product.
+    fn wrapping_product(self, other: Self) -> Self
+        ensures { number result ≡ reduce (256 ^ BYTES) (signed (256 ^ BYTES) (number self) *ℤ signed (256 ^ BYTES) (number other)) };
 
-// Stores v in four bytes from `at` on.
-pub fn write4(s: &mut [u8], at: usize, v: u32)
-    requires { at + 4 ≤ length s.old }
-    ensures { s.new ≡ put_le at 4 v s.old }
-{
-    s[at] = (v % 256) as u8;
-    s[at + 1] = (v / 0x100 % 256) as u8;
-    s[at + 2] = (v / 0x1_0000 % 256) as u8;
-    s[at + 3] = (v / 0x100_0000) as u8;
-}
-
-// Stores v in eight bytes from `at` on.
-pub fn write8(s: &mut [u8], at: usize, v: u64)
-    requires { at + 8 ≤ length s.old }
-    ensures { s.new ≡ put_le at 8 v s.old }
-{
-    s[at] = (v % 256) as u8;
-    s[at + 1] = (v / 0x100 % 256) as u8;
-    s[at + 2] = (v / 0x1_0000 % 256) as u8;
-    s[at + 3] = (v / 0x100_0000 % 256) as u8;
-    s[at + 4] = (v / 0x1_0000_0000 % 256) as u8;
-    s[at + 5] = (v / 0x100_0000_0000 % 256) as u8;
-    s[at + 6] = (v / 0x1_0000_0000_0000 % 256) as u8;
-    s[at + 7] = (v / 0x100_0000_0000_0000 % 256) as u8;
-}
-
-// The low byte of a number.
-pub fn low8(v: u64) -> u8
-    ensures { result ≡ v % 256 ^ 1 }
-{
-    (v % 256) as u8
-}
-
-// The low two bytes of a number.
-pub fn low16(v: u64) -> u16
-    ensures { result ≡ v % 256 ^ 2 }
-{
-    (v % 65536) as u16
-}
-
-// The low four bytes of a number.
-pub fn low32(v: u64) -> u32
-    ensures { result ≡ v % 256 ^ 4 }
-{
-    (v % 0x1_0000_0000) as u32
-}
-
-// Sign extension as a wrapping add: the residue of the signed number x at a wider width, from 8 bits to 16.
-fn extend1to2(x: u8) -> u16
-    ensures { result ≡ reduce (256 ^ 2) (signed (256 ^ 1) x) }
-{
-    std::num::wrapping_add_u16((x as u16 + 128) % 256, 65408)
-}
-
-// From 8 bits to 32.
-fn extend1to4(x: u8) -> u32
-    ensures { result ≡ reduce (256 ^ 4) (signed (256 ^ 1) x) }
-{
-    std::num::wrapping_add_u32((x as u32 + 128) % 256, 0xffff_ff80)
-}
-
-// From 16 bits to 32.
-pub fn extend2to4(x: u16) -> u32
-    ensures { result ≡ reduce (256 ^ 4) (signed (256 ^ 2) x) }
-{
-    std::num::wrapping_add_u32((x as u32 + 32768) % 65536, 0xffff_8000)
-}
-
-// From 8 bits to 64.
-fn extend1to8(x: u8) -> u64
-    ensures { result ≡ reduce (256 ^ 8) (signed (256 ^ 1) x) }
-{
-    std::num::wrapping_add_u64((x as u64 + 128) % 256, 0xffff_ffff_ffff_ff80)
-}
-
-// From 16 bits to 64.
-fn extend2to8(x: u16) -> u64
-    ensures { result ≡ reduce (256 ^ 8) (signed (256 ^ 2) x) }
-{
-    std::num::wrapping_add_u64((x as u64 + 32768) % 65536, 0xffff_ffff_ffff_8000)
-}
-
-// From 32 bits to 64.
-fn extend4to8(x: u32) -> u64
-    ensures { result ≡ reduce (256 ^ 8) (signed (256 ^ 4) x) }
-{
-    std::num::wrapping_add_u64(
-        (x as u64 + 0x8000_0000) % 0x1_0000_0000,
-        0xffff_ffff_8000_0000,
-    )
-}
-
-// The signed element of one byte at `at`, as a residue at 8 bits: the byte itself.
-pub fn read_signed8(s: &[u8], at: usize) -> u8
-    requires { at + 1 ≤ length s.now }
-    ensures { result ≡ reduce (256 ^ 1) (signed (256 ^ 1) (get_le s.now at 1)) }
-{
-    read1(s, at)
-}
-
-// The signed element of width bytes at `at`, as a residue at 16 bits.
-pub fn read_signed16(s: &[u8], at: usize, width: usize) -> u16
-    requires narrow { Narrow width }
-    requires width_in_bounds { at + width ≤ length s.now }
-    ensures { result ≡ reduce (256 ^ 2) (signed (256 ^ width) (get_le s.now at width)) }
-{
-    if width == 1 {
-        return extend1to2(read1(s, at));
+    // Multiply-accumulate: the residue of self plus x times y, all signed.
+    final fn mac(self, x: Self, y: Self) -> Self
+        ensures { number result ≡ reduce (256 ^ BYTES) (signed (256 ^ BYTES) (number self) +ℤ signed (256 ^ BYTES) (number x) *ℤ signed (256 ^ BYTES) (number y)) }
+    {
+        self.wrapping_sum(x.wrapping_product(y))
     }
-    read2(s, at)
-}
 
-// The signed element of width bytes at `at`, as a residue at 32 bits.
-pub fn read_signed32(s: &[u8], at: usize, width: usize) -> u32
-    requires short { Short width }
-    requires width_in_bounds { at + width ≤ length s.now }
-    ensures { result ≡ reduce (256 ^ 4) (signed (256 ^ width) (get_le s.now at width)) }
-{
-    if width == 1 {
-        return extend1to4(read1(s, at));
+    // The residue of the signed number that x stands for: x sign-extended, or its low bytes.
+    final fn from_signed<N: Element>(x: N) -> Self
+        ensures { number result ≡ reduce (256 ^ BYTES) (signed (256 ^ N.BYTES) (N.number x)) }
+    {
+        Self::low(x.sign_extended())
     }
-    if width == 2 {
-        return extend2to4(read2(s, at));
+
+    // The residue of the signed element of width bytes at `at`.
+    final fn read_signed(s: &[u8], at: usize, width: usize) -> Self
+        requires width { (Width width) × (width ≤ BYTES) }
+        requires width_in_bounds { at + width ≤ length s.now }
+        ensures { number result ≡ reduce (256 ^ BYTES) (signed (256 ^ width) (get_le s.now at width)) }
+    {
+        // By the least of the two, the compiler drops the arms of wider elements.
+        match width.min(Self::BYTES) {
+            8 => Self::from_signed(u64::read(s, at)),
+            4 => Self::from_signed(u32::read(s, at)),
+            2 => Self::from_signed(u16::read(s, at)),
+            _ => Self::from_signed(u8::read(s, at)),
+        }
     }
-    read4(s, at)
+
+    ghost is_width: { Width BYTES };
+
+    // A value takes as many bytes of memory.
+    ghost takes_width: { type_size Self.row ≡ BYTES };
 }
 
-// The signed element of width bytes at `at`, as a residue at 64 bits.
-pub fn read_signed64(s: &[u8], at: usize, width: usize) -> u64
-    requires width { Width width }
-    requires width_in_bounds { at + width ≤ length s.now }
-    ensures { result ≡ reduce (256 ^ 8) (signed (256 ^ width) (get_le s.now at width)) }
-{
-    if width == 1 {
-        return extend1to8(read1(s, at));
+impl Element for u8 {
+    ghost number = { λ x. x };
+
+    ghost BYTES = { 1 };
+
+    ghost is_width = { inl refl };
+
+    ghost takes_width = { refl };
+
+    const BYTES: usize = 1;
+
+    fn low(v: u64) -> u8 {
+        (v % 0x100) as u8
     }
-    if width == 2 {
-        return extend2to8(read2(s, at));
+
+    fn read(s: &[u8], at: usize) -> u8 {
+        s[at]
     }
-    if width == 4 {
-        return extend4to8(read4(s, at));
+
+    fn write(s: &mut [u8], at: usize, v: u8) {
+        s[at] = v;
     }
-    read8(s, at)
+
+    // Sign extension as a wrapping add, here and below.
+    fn sign_extended(self) -> u64 {
+        ((self as u64 + 0x80) % 0x100).wrapping_add(0xffff_ffff_ffff_ff80)
+    }
+
+    fn wrapping_sum(self, other: u8) -> u8 {
+        u8::wrapping_add(self, other)
+    }
+
+    fn wrapping_product(self, other: u8) -> u8 {
+        u8::wrapping_mul(self, other)
+    }
 }
 
-// The wrapping product is the residue of the signed product: at 8 bits.
-pub fn wrapping_mul8(x: u8, y: u8) -> u8
-    ensures { result ≡ reduce (256 ^ 1) (signed (256 ^ 1) x *ℤ signed (256 ^ 1) y) }
-{
-    ((x as u16) * (y as u16) % 256) as u8
+impl Element for u16 {
+    ghost number = { λ x. x };
+
+    ghost BYTES = { 2 };
+
+    ghost is_width = { inr (inl refl) };
+
+    ghost takes_width = { refl };
+
+    const BYTES: usize = 2;
+
+    fn low(v: u64) -> u16 {
+        (v % 0x1_0000) as u16
+    }
+
+    fn read(s: &[u8], at: usize) -> u16 {
+        u16::from_le_bytes([s[at], s[at + 1]])
+    }
+
+    fn write(s: &mut [u8], at: usize, v: u16) {
+        s[at] = (v % 0x100) as u8;
+        s[at + 1] = (v / 0x100) as u8;
+    }
+
+    fn sign_extended(self) -> u64 {
+        ((self as u64 + 0x8000) % 0x1_0000).wrapping_add(0xffff_ffff_ffff_8000)
+    }
+
+    fn wrapping_sum(self, other: u16) -> u16 {
+        u16::wrapping_add(self, other)
+    }
+
+    fn wrapping_product(self, other: u16) -> u16 {
+        u16::wrapping_mul(self, other)
+    }
 }
 
-// At 16 bits.
-pub fn wrapping_mul16(x: u16, y: u16) -> u16
-    ensures { result ≡ reduce (256 ^ 2) (signed (256 ^ 2) x *ℤ signed (256 ^ 2) y) }
-{
-    ((x as u32) * (y as u32) % 65536) as u16
+impl Element for u32 {
+    ghost number = { λ x. x };
+
+    ghost BYTES = { 4 };
+
+    ghost is_width = { inr (inr (inl refl)) };
+
+    ghost takes_width = { refl };
+
+    const BYTES: usize = 4;
+
+    fn low(v: u64) -> u32 {
+        (v % 0x1_0000_0000) as u32
+    }
+
+    fn read(s: &[u8], at: usize) -> u32 {
+        u32::from_le_bytes([s[at], s[at + 1], s[at + 2], s[at + 3]])
+    }
+
+    fn write(s: &mut [u8], at: usize, v: u32) {
+        s[at] = (v % 0x100) as u8;
+        s[at + 1] = (v / 0x100 % 0x100) as u8;
+        s[at + 2] = (v / 0x1_0000 % 0x100) as u8;
+        s[at + 3] = (v / 0x100_0000) as u8;
+    }
+
+    fn sign_extended(self) -> u64 {
+        ((self as u64 + 0x8000_0000) % 0x1_0000_0000).wrapping_add(0xffff_ffff_8000_0000)
+    }
+
+    fn wrapping_sum(self, other: u32) -> u32 {
+        u32::wrapping_add(self, other)
+    }
+
+    fn wrapping_product(self, other: u32) -> u32 {
+        u32::wrapping_mul(self, other)
+    }
 }
 
-// At 32 bits.
-pub fn wrapping_mul32(x: u32, y: u32) -> u32
-    ensures { result ≡ reduce (256 ^ 4) (signed (256 ^ 4) x *ℤ signed (256 ^ 4) y) }
-{
-    ((x as u64) * (y as u64) % 0x1_0000_0000) as u32
-}
+impl Element for u64 {
+    ghost number = { λ x. x };
 
-// The same at 64 bits, by halves: the product of the high halves falls away.
-pub fn wrapping_mul64(x: u64, y: u64) -> u64
-    ensures { result ≡ reduce (256 ^ 8) (signed (256 ^ 8) x *ℤ signed (256 ^ 8) y) }
-{
-    let x_low = x % 0x1_0000_0000;
-    let y_low = y % 0x1_0000_0000;
-    let across = x / 0x1_0000_0000 * y_low % 0x1_0000_0000
-        + x_low * (y / 0x1_0000_0000) % 0x1_0000_0000;
-    std::num::wrapping_add_u64(x_low * y_low, across % 0x1_0000_0000 * 0x1_0000_0000)
+    ghost BYTES = { 8 };
+
+    ghost is_width = { inr (inr (inr refl)) };
+
+    ghost takes_width = { refl };
+
+    const BYTES: usize = 8;
+
+    fn low(v: u64) -> u64 {
+        v
+    }
+
+    fn read(s: &[u8], at: usize) -> u64 {
+        u64::from_le_bytes([
+            s[at],
+            s[at + 1],
+            s[at + 2],
+            s[at + 3],
+            s[at + 4],
+            s[at + 5],
+            s[at + 6],
+            s[at + 7],
+        ])
+    }
+
+    fn write(s: &mut [u8], at: usize, v: u64) {
+        s[at] = (v % 0x100) as u8;
+        s[at + 1] = (v / 0x100 % 0x100) as u8;
+        s[at + 2] = (v / 0x1_0000 % 0x100) as u8;
+        s[at + 3] = (v / 0x100_0000 % 0x100) as u8;
+        s[at + 4] = (v / 0x1_0000_0000 % 0x100) as u8;
+        s[at + 5] = (v / 0x100_0000_0000 % 0x100) as u8;
+        s[at + 6] = (v / 0x1_0000_0000_0000 % 0x100) as u8;
+        s[at + 7] = (v / 0x100_0000_0000_0000 % 0x100) as u8;
+    }
+
+    fn sign_extended(self) -> u64 {
+        self
+    }
+
+    fn wrapping_sum(self, other: u64) -> u64 {
+        u64::wrapping_add(self, other)
+    }
+
+    fn wrapping_product(self, other: u64) -> u64 {
+        u64::wrapping_mul(self, other)
+    }
 }

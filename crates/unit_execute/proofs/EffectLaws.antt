@@ -10,9 +10,7 @@ use Rattle.machine.specs.ArithmeticWords.{width_ok, float_product_at, is_zero}
 use Rattle.machine.proofs.TestLaws.{all-at, each_in}
 use Rattle.machine.specs.declared.Machine.{Machine}
 use Rattle.machine.specs.declared.Sum.{Sum}
-use Rattle.machine.specs.declared.Answer.{Answer}
-use Rattle.machine.specs.declared.Answer.TheVariants.{Done}
-use Rattle.machine.specs.Answers.{verdict, is_done}
+use Rattle.machine.specs.Answers.{verdict, is_done, Answer, Done}
 use Rattle.machine.specs.Geometry.{elens, State, state_of, acc_at}
 use Rattle.machine.specs.Setting.{sew, chosen}
 use Rattle.machine.specs.Operation.{Operation}

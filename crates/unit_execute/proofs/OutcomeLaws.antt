@@ -1,17 +1,16 @@
 -- The outcome of each family from its parts, in a state that is not at fault; and answer 8 of a step.
-use Rattle.numbers.proofs.Kit.{◌≡◌, refl, sym, ap, ap₂, ◌∙◌, Bool, true, false, cond, not, List, [], ℕ, eqb, eqb-true}
+use Rattle.numbers.proofs.Kit.{◌≡◌, refl, sym, ap, ap₂, ◌∙◌, Bool, true, false, cond, not, List, [], ℕ, eqb, eqb-true, Err}
 use Rattle.machine.specs.declared.Machine.{Machine}
-use Rattle.machine.specs.declared.Answer.{Answer}
-use Rattle.machine.specs.declared.Answer.TheVariants.{Done, IllegalWord, IllegalType, BadArguments, WrongOpcode, LeftOutWord, WrongRegister}
+use Rattle.machine.specs.declared.Refusal.TheVariants.{IllegalWord, IllegalType, BadArguments, WrongOpcode, LeftOutWord, WrongRegister}
 use Rattle.machine.specs.declared.Wrong.{Wrong}
 use Rattle.machine.specs.declared.Wrong.TheVariants.{Opcode, LeftOut, Unlisted, Register}
-use Rattle.machine.specs.declared.Stepped.{Stepped}
+use Rattle.machine.specs.Step.{Stepped}
 use Rattle.machine.specs.declared.Dimension.{Dimension}
 use Rattle.machine.specs.declared.Dimension.TheVariants.{DimensionM, DimensionK, DimensionN}
 use Rattle.machine.specs.declared.Instruction.{Instruction}
 use Rattle.machine.proofs.StepLaws.{step-refused}
 use Rattle.machine.specs.Listing.{decode}
-use Rattle.machine.specs.Answers.{reply, verdict, is_done}
+use Rattle.machine.specs.Answers.{reply, verdict, is_done, Answer, Done}
 use Rattle.machine.specs.Geometry.{Range, sealed, State, state_of, machine_after, Bench, bench_of, scalar, with_scalar}
 use Rattle.machine.specs.Setting.{mill, new_type, maximum, smaller, chosen, size_in}
 use Rattle.machine.specs.Operation.{Operation, asked_size}
@@ -43,11 +42,11 @@ module _ (m : Machine) (seals : List Range) (i : Instruction) (xs regs marks mem
   abbrev leaves : Answer → Machine → (xs regs marks mem : List ℕ) → Outcome
   leaves a m' xs' regs' marks' mem' = record { answer = reply a; bench = bench_of m' seals regs' marks' mem'; scalars = xs' }
 
-  pub illegal-outcome : (wrong : Wrong) → meant (ours m) i xs B ≡ Operation.illegal wrong → leaves (word_answer wrong) m xs regs marks mem ≡ here
-  illegal-outcome Opcode e = outcome-by (ours m) i xs B good t WrongOpcode (ap (λ (o : Operation). verdict (checks (ours m) (sealed seals) o (given (ours m) i xs B) mem)) e)
-  illegal-outcome LeftOut e = outcome-by (ours m) i xs B good t LeftOutWord (ap (λ (o : Operation). verdict (checks (ours m) (sealed seals) o (given (ours m) i xs B) mem)) e)
-  illegal-outcome Unlisted e = outcome-by (ours m) i xs B good t IllegalWord (ap (λ (o : Operation). verdict (checks (ours m) (sealed seals) o (given (ours m) i xs B) mem)) e)
-  illegal-outcome Register e = outcome-by (ours m) i xs B good t WrongRegister (ap (λ (o : Operation). verdict (checks (ours m) (sealed seals) o (given (ours m) i xs B) mem)) e)
+  pub illegal-outcome : (wrong : Wrong) → meant (ours m) i xs B ≡ Operation.illegal wrong → leaves (Err (word_answer wrong)) m xs regs marks mem ≡ here
+  illegal-outcome Opcode e = outcome-by (ours m) i xs B good t (Err WrongOpcode) (ap (λ (o : Operation). verdict (checks (ours m) (sealed seals) o (given (ours m) i xs B) mem)) e)
+  illegal-outcome LeftOut e = outcome-by (ours m) i xs B good t (Err LeftOutWord) (ap (λ (o : Operation). verdict (checks (ours m) (sealed seals) o (given (ours m) i xs B) mem)) e)
+  illegal-outcome Unlisted e = outcome-by (ours m) i xs B good t (Err IllegalWord) (ap (λ (o : Operation). verdict (checks (ours m) (sealed seals) o (given (ours m) i xs B) mem)) e)
+  illegal-outcome Register e = outcome-by (ours m) i xs B good t (Err WrongRegister) (ap (λ (o : Operation). verdict (checks (ours m) (sealed seals) o (given (ours m) i xs B) mem)) e)
 
   pub type-outcome : (v rd : ℕ) → meant (ours m) i xs B ≡ Operation.set_type v → destination i ≡ rd
       → leaves Done (with_type m (new_type m.elen v)) (with_scalar xs rd (new_type m.elen v)) regs marks mem ≡ here
@@ -63,7 +62,7 @@ module _ (m : Machine) (seals : List Range) (i : Instruction) (xs regs marks mem
       → leaves (size_stepped m d a).answer (size_stepped m d a).machine (size_scalars m d a rd xs) regs marks mem ≡ here
   size-outcome d a rd e er = go (mill m.mtype) refl
     where
-      v : verdict (checks (ours m) (sealed seals) (meant (ours m) i xs B) (given (ours m) i xs B) mem) ≡ cond (not (mill m.mtype)) Done IllegalType
+      v : verdict (checks (ours m) (sealed seals) (meant (ours m) i xs B) (given (ours m) i xs B) mem) ≡ cond (not (mill m.mtype)) Done (Err IllegalType)
       v = ap (λ (o : Operation). verdict (checks (ours m) (sealed seals) o (given (ours m) i xs B) mem)) e
 
       granted-is : (d : Dimension) → leaves Done (with_size m d (granted m d a)) (with_scalar xs rd (granted m d a)) regs marks mem
@@ -77,8 +76,8 @@ module _ (m : Machine) (seals : List Range) (i : Instruction) (xs regs marks mem
       granted-is DimensionN = refl
 
       go : (b : Bool) → mill m.mtype ≡ b
-          → leaves (cond {A = Stepped} b (record { answer = IllegalType; machine = m }) (record { answer = Done; machine = with_size m d (granted m d a) })).answer (cond {A = Stepped} b (record { answer = IllegalType; machine = m }) (record { answer = Done; machine = with_size m d (granted m d a) })).machine (cond b xs (with_scalar xs rd (granted m d a))) regs marks mem ≡ here
-      go true b = outcome-by (ours m) i xs B good t IllegalType (v ∙ rw b)
+          → leaves (cond {A = Stepped} b (record { answer = (Err IllegalType); machine = m }) (record { answer = Done; machine = with_size m d (granted m d a) })).answer (cond {A = Stepped} b (record { answer = (Err IllegalType); machine = m }) (record { answer = Done; machine = with_size m d (granted m d a) })).machine (cond b xs (with_scalar xs rd (granted m d a))) regs marks mem ≡ here
+      go true b = outcome-by (ours m) i xs B good t (Err IllegalType) (v ∙ rw b)
       go false b =
           granted-is d
           ∙ ap₂ (λ (o : Operation) (rd : ℕ). record {
@@ -92,7 +91,7 @@ module _ (m : Machine) (seals : List Range) (i : Instruction) (xs regs marks mem
       → leaves (cut_stepped m d).answer (cut_stepped m d).machine xs regs marks mem ≡ here
   cut-outcome d e er = go (mill m.mtype) refl
     where
-      v : verdict (checks (ours m) (sealed seals) (meant (ours m) i xs B) (given (ours m) i xs B) mem) ≡ cond (not (mill m.mtype)) Done IllegalType
+      v : verdict (checks (ours m) (sealed seals) (meant (ours m) i xs B) (given (ours m) i xs B) mem) ≡ cond (not (mill m.mtype)) Done (Err IllegalType)
       v = ap (λ (o : Operation). verdict (checks (ours m) (sealed seals) o (given (ours m) i xs B) mem)) e
 
       least : ℕ
@@ -108,8 +107,8 @@ module _ (m : Machine) (seals : List Range) (i : Instruction) (xs regs marks mem
       cut-is DimensionK = refl
       cut-is DimensionN = refl
 
-      go : (b : Bool) → mill m.mtype ≡ b → leaves (cond {A = Stepped} b (record { answer = IllegalType; machine = m }) (record { answer = Done; machine = with_size m d least })).answer (cond {A = Stepped} b (record { answer = IllegalType; machine = m }) (record { answer = Done; machine = with_size m d least })).machine xs regs marks mem ≡ here
-      go true b = outcome-by (ours m) i xs B good t IllegalType (v ∙ rw b)
+      go : (b : Bool) → mill m.mtype ≡ b → leaves (cond {A = Stepped} b (record { answer = (Err IllegalType); machine = m }) (record { answer = Done; machine = with_size m d least })).answer (cond {A = Stepped} b (record { answer = (Err IllegalType); machine = m }) (record { answer = Done; machine = with_size m d least })).machine xs regs marks mem ≡ here
+      go true b = outcome-by (ours m) i xs B good t (Err IllegalType) (v ∙ rw b)
       go false b =
           cut-is d
           ∙ ap₂ (λ (o : Operation) (rd : ℕ). record {
@@ -168,11 +167,11 @@ module _ (m : Machine) (seals : List Range) (i : Instruction) (xs regs marks mem
 
 -- ---- answer 8 of a step, and its word
 
-pub step-fault : (word : ℕ) (xs : List ℕ) (B : Bench) → sound_bench B ≡ false → step word xs B ≡ record { answer = reply BadArguments; bench = B; scalars = xs }
-step-fault word xs B h = step-refused chosen word xs B BadArguments refl (rw h)
+pub step-fault : (word : ℕ) (xs : List ℕ) (B : Bench) → sound_bench B ≡ false → step word xs B ≡ record { answer = reply (Err BadArguments); bench = B; scalars = xs }
+step-fault word xs B h = step-refused chosen word xs B (Err BadArguments) refl (rw h)
 
-pub step-scalars : (word : ℕ) (xs : List ℕ) (B : Bench) → sound_bench B ≡ true → thirty_two xs ≡ false → step word xs B ≡ record { answer = reply BadArguments; bench = B; scalars = xs }
-step-scalars word xs B h t = step-refused chosen word xs B BadArguments refl (rw (h, t))
+pub step-scalars : (word : ℕ) (xs : List ℕ) (B : Bench) → sound_bench B ≡ true → thirty_two xs ≡ false → step word xs B ≡ record { answer = reply (Err BadArguments); bench = B; scalars = xs }
+step-scalars word xs B h t = step-refused chosen word xs B (Err BadArguments) refl (rw (h, t))
 
 pub step-decoded : (word : ℕ) (xs : List ℕ) (B : Bench) (i : Instruction) → i ≡ decode word → outcome (ours B.machine) i xs B ≡ step word xs B
 unfolding step_by

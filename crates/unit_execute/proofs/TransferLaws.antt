@@ -4,10 +4,9 @@ use Rattle.numbers.specs.Tile.{put_tile, mark_tile}
 use Rattle.machine.specs.declared.Machine.{Machine}
 use Rattle.machine.specs.declared.Form.{Form}
 use Rattle.machine.specs.declared.Matrix.{Matrix}
-use Rattle.machine.specs.declared.Answer.{Answer}
-use Rattle.machine.specs.declared.Answer.TheVariants.{BadWidth, OutsideMemory, SealedByte, RowsOverlap}
+use Rattle.machine.specs.declared.Refusal.TheVariants.{BadWidth, OutsideMemory, SealedByte, RowsOverlap}
 use Rattle.machine.specs.declared.Matrix.TheVariants.{MatrixA, MatrixB, MatrixC}
-use Rattle.machine.specs.Answers.{Check, ◌otherwise◌, verdict, is_done}
+use Rattle.machine.specs.Answers.{Check, ◌otherwise◌, verdict, is_done, Answer}
 use Rattle.machine.specs.Geometry.{State, state_of, register_count, register_at, start_of, pitch_of}
 use Rattle.machine.specs.Setting.{chosen}
 use Rattle.machine.specs.Memory.{row_at, inside, distinct, rows_miss}

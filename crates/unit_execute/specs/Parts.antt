@@ -1,14 +1,14 @@
 -- What the functions of a family answer and leave, in the words of the definitions.
-use Rattle.std.specs.Prelude.{◌≡◌}
+use Rattle.std.specs.Prelude.{◌≡◌, ◌/◌}
 use Rattle.numbers.specs.Kit.{Bool, true, false, cond, List, [], ℕ}
 use Rattle.machine.specs.declared.Machine.{Machine}
-use Rattle.machine.specs.declared.Answer.{Answer}
-use Rattle.machine.specs.Answers.{verdict, is_done}
+use Rattle.machine.specs.Answers.{verdict, is_done, Answer}
 use Rattle.machine.specs.Geometry.{State, state_of}
 use Rattle.machine.specs.Operation.{Operation}
 use Rattle.machine.specs.Meanings.{state_after, memory_after, checks}
 use Rattle.machine.specs.Faults.{sound}
 use Rattle.unit_settings.specs.Parts.{ours}
+use Rattle.unit_arithmetic.specs.declared.Tiles.{Tiles}
 
 module _ (m : Machine) (o : Operation) (regs marks mem : List ℕ) where
   abbrev pub before : State
@@ -35,3 +35,7 @@ pub record Permitted (m : Machine) (o : Operation) (regs : List ℕ) : Type 0 wh
 -- the registers that it leaves, which no mark decides
 abbrev pub registers_after : Machine → Operation → List ℕ → List ℕ
 registers_after m o regs = (state_after (ours m) o (state_of m regs []) []).regs
+
+-- the registers and tiles of a machine
+abbrev pub tiles_of : Machine → Tiles
+tiles_of m = record { rows = m.mlen / m.rlen; pitch = m.rlen / 8; m = m.tile_m; k = m.tile_k; n = m.tile_n }

@@ -28,10 +28,7 @@ pub fn load(
     requires md_bound { md < register_count matrix }
     ensures { WritesRegisters m (Operation.load form matrix md width base stride) registers.old marks.old memory.now result registers.new marks.new }
 {
-    let fitting = check_transfer(m, matrix, width);
-    if !unit_answers::is_done(fitting) {
-        return fitting;
-    }
+    check_transfer(m, matrix, width)?;
     let p = tile_of(m, matrix, md);
     unit_transfer::load(
         form,
@@ -69,10 +66,7 @@ pub fn store(
     requires seals_value { seals_fit (seals_in seals.now) ≡ true }
     ensures { WritesMemory m (Operation.store form matrix ms3 width base stride) registers.now marks.now memory.old (sealed (seals_in seals.now)) result memory.new }
 {
-    let fitting = check_transfer(m, matrix, width);
-    if !unit_answers::is_done(fitting) {
-        return fitting;
-    }
+    check_transfer(m, matrix, width)?;
     let p = tile_of(m, matrix, ms3);
     unit_transfer::store(
         form,

@@ -10,7 +10,6 @@ ghost use Rattle.unit_ranges.specs.Ranges.{seals_in};
 ghost use Rattle.unit_settings.specs.Parts.{numbers_sound};
 
 use machine::Machine;
-use numbers::smaller;
 use unit_settings::kept_type;
 
 // Whether the machine's numbers are ones that a machine can hold.
@@ -31,7 +30,7 @@ fn numbers_sound(m: Machine) -> bool
     if m.tile_m > rows {
         return false;
     }
-    if m.tile_k > smaller(rows, pitch) {
+    if m.tile_k > rows.min(pitch) {
         return false;
     }
     if m.tile_n > pitch {

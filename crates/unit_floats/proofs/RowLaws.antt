@@ -1,5 +1,5 @@
 -- Rows of float products: their sums, the rows that are stored, and products block after block.
-use Rattle.numbers.proofs.Kit.{◌≡◌, refl, sym, ap, ◌∙◌, List, ℕ, ◌+◌, ◌*◌, ◌≤◌, ◌<◌, zero-add, arith, add-one, get_or}
+use Rattle.numbers.proofs.Kit.{◌≡◌, refl, sym, ap, ap₂, ◌∙◌, List, ℕ, ◌+◌, ◌*◌, ◌≤◌, ◌<◌, zero-add, arith, add-one, get_or}
 use lib.Ieee.{Float, nan}
 use Rattle.numbers.specs.Tile.{put_row}
 use Rattle.numbers.specs.Binary32.{settled, multiply_add, float_sum, float_product}
@@ -10,15 +10,27 @@ use Rattle.numbers.proofs.Binary32Laws.{product-cong, product_small, product-mor
 use Rattle.unit_arithmetic.proofs.BlockLaws.{Joins}
 use Rattle.unit_floats.specs.Rows.{float_at, float_row}
 
--- ---- add_products: no product, and one more
+-- ---- add_products: each sum has its first l products
 
-pub float-none : (v : Float) (f g : ℕ → Float) → v ≡ float_sum v 0 f g
-unfolding float_sum
-float-none v f g = refl
+-- s is the register bytes, d the values of B, and A starts at a
+module _ (s : List ℕ) (d : List Float) (a : ℕ) where
+  abbrev pub HasProducts : (before sums : List Float) (l : ℕ) → Type 0
+  HasProducts before sums l =
+      (j : ℕ) → j < most_floats → get_or sums j nan ≡ float_sum (get_or before j nan) l (λ t. float_at s (a + t * 4)) (λ t. get_or d (t * most_floats + j) nan)
 
-pub float-more : (v : Float) (l : ℕ) (f g : ℕ → Float) → multiply_add (float_sum v l f g) (f l) (g l) ≡ float_sum v (l + 1) f g
-unfolding float_sum
-float-more v l f g = rw add-one
+  pub no_product : (sums : List Float) → HasProducts sums sums 0
+  unfolding float_sum
+  no_product sums = λ j h. refl
+
+  more : (v : Float) (l : ℕ) (f g : ℕ → Float) → multiply_add (float_sum v l f g) (f l) (g l) ≡ float_sum v (l + 1) f g
+  unfolding float_sum
+  more v l f g = rw add-one
+
+  pub one_product_more : (before sums out : List Float) (l : ℕ) (x : Float) → HasProducts before sums l → x ≡ float_at s (a + l * 4)
+      → ((j : ℕ) → j < most_floats → get_or out j nan ≡ multiply_add (get_or sums j nan) x (get_or d (l * most_floats + j) nan)) → HasProducts before out (l + 1)
+  one_product_more before sums out l x has ex eo = λ j h.
+      eo j h ∙ ap₂ (λ (u v : Float). multiply_add u v (get_or d (l * most_floats + j) nan)) (has j h) ex
+      ∙ more (get_or before j nan) l (λ t. float_at s (a + t * 4)) (λ t. get_or d (t * most_floats + j) nan)
 
 -- ---- multiply_row: the old values, then all products, stored
 

@@ -5,17 +5,23 @@
 
 ghost use Rattle.std.specs.Prelude.{◌≡◌, ℕ, ◌+◌, ◌*◌, ◌≤◌, ◌<◌, length, get_or};
 ghost use Rattle.std.specs.Float.{nan};
-ghost use Rattle.numbers.specs.Tile.{put_row, put_tile};
+ghost use Rattle.numbers.specs.Tile.{put_row};
 ghost use Rattle.numbers.specs.Binary32.{settled, multiply_add, float_sum};
-ghost use Rattle.numbers.specs.Bounds.{most_pitch, most_floats, most_size, most_terms};
-ghost use Rattle.unit_arithmetic.specs.Effect.{shape};
-ghost use Rattle.unit_floats.specs.Rows.{float_at, float_row, float_tile};
+ghost use Rattle.numbers.specs.Bounds.{most_pitch, most_floats, most_terms};
+ghost use Rattle.unit_arithmetic.specs.Products.{LiesIn};
+ghost use Rattle.unit_arithmetic.specs.Tiles.{shape_of, Registers};
+ghost use Rattle.unit_floats.specs.Rows.{float_at, float_row, float_tile, floats_added, first_rows, Fetched};
+
+use unit_arithmetic::Tiles;
+use unit_arithmetic::product::Product;
+use unit_binary32::{multiply_add, stored_bits, value_of};
+use unit_element::{COLUMNS, Element, TERMS};
 
 // The columns of a block (numbers/specs/Bounds.antt: most_floats).
-const FLOATS: usize = unit_element::COLUMNS / 4;
+const FLOATS: usize = COLUMNS / 4;
 
 // The values of B in a block.
-const VALUES: usize = unit_element::TERMS * FLOATS;
+const VALUES: usize = TERMS * FLOATS;
 
 // The values of the row of n elements at `at`, from `to` on.
 fn fetch_row(d: &mut [f32], to: usize, s: &[u8], at: usize, n: usize)
@@ -24,12 +30,8 @@ fn fetch_row(d: &mut [f32], to: usize, s: &[u8], at: usize, n: usize)
     ensures by_index { (j : ℕ) → j < n → get_or d.new (to + j) nan ≡ float_at s.now (at + j * 4) }
     ensures by_index_2 { (i : ℕ) → i < to → get_or d.new i nan ≡ get_or d.old i nan }
 {
-    let mut j = 0;
-    let mut from = at;
-    while j < n {
-        d[to + j] = unit_binary32::value_of(unit_element::read4(s, from));
-        from += 4;
-        j += 1;
+    for j in 0..n {
+        d[to + j] = value_of(u32::read(s, at + j * 4));
     }
 }
 
@@ -39,14 +41,8 @@ fn fetch_tile(d: &mut [f32], s: &[u8], b: usize, pitch: usize, k: usize, n: usiz
     requires n_bound { (n * 4 ≤ pitch) × (b + k * pitch ≤ length s.now) }
     ensures { (l j : ℕ) → l < k → j < n → get_or d.new (l * most_floats + j) nan ≡ float_at s.now (b + l * pitch + j * 4) }
 {
-    let mut l = 0;
-    let mut row = b;
-    let mut to = 0;
-    while l < k {
-        fetch_row(d, to, s, row, n);
-        row += pitch;
-        to += FLOATS;
-        l += 1;
+    for l in 0..k {
+        fetch_row(d, l * FLOATS, s, b + l * pitch, n);
     }
 }
 
@@ -56,10 +52,8 @@ fn mac_row(sums: &mut [f32], d: &[f32], at: usize, x: f32)
     requires most_floats_in_bounds_2 { at + most_floats ≤ length d.now }
     ensures { (j : ℕ) → j < most_floats → get_or sums.new j nan ≡ multiply_add (get_or sums.old j nan) x (get_or d.now (at + j) nan) }
 {
-    let mut j = 0;
-    while j < FLOATS {
-        sums[j] = unit_binary32::multiply_add(sums[j], x, d[at + j]);
-        j += 1;
+    for j in 0..FLOATS {
+        sums[j] = multiply_add(sums[j], x, d[at + j]);
     }
 }
 
@@ -70,15 +64,9 @@ fn add_products(sums: &mut [f32], d: &[f32], s: &[u8], a: usize, k: usize)
     requires k_in_bounds { a + k * 4 ≤ length s.now }
     ensures { (j : ℕ) → j < most_floats → get_or sums.new j nan ≡ float_sum (get_or sums.old j nan) k (λ l. float_at s.now (a + l * 4)) (λ l. get_or d.now (l * most_floats + j) nan) }
 {
-    let mut l = 0;
-    let mut from = a;
-    let mut row = 0;
-    while l < k {
-        let x = unit_binary32::value_of(unit_element::read4(s, from));
-        mac_row(sums, d, row, x);
-        from += 4;
-        row += FLOATS;
-        l += 1;
+    for l in 0..k {
+        let x = value_of(u32::read(s, a + l * 4));
+        mac_row(sums, d, l * FLOATS, x);
     }
 }
 
@@ -88,49 +76,35 @@ fn store_row(s: &mut [u8], sums: &[f32], to: usize, n: usize)
     requires n_in_bounds_2 { to + n * 4 ≤ length s.old }
     ensures { s.new ≡ put_row to n 4 (λ j. settled (get_or sums.now j nan)) s.old }
 {
-    let mut j = 0;
-    let mut at = to;
-    while j < n {
-        unit_element::write4(s, at, unit_binary32::stored_bits(sums[j]));
-        at += 4;
-        j += 1;
+    for j in 0..n {
+        u32::write(s, to + j * 4, stored_bits(sums[j]));
     }
 }
 
-// One row of C; d holds the values of B's tile.
-fn multiply_row(
-    s: &mut [u8],
-    d: &[f32],
-    a: usize,
-    b: usize,
-    c: usize,
-    pitch: usize,
-    k: usize,
-    n: usize,
-)
-    requires n_le_most_floats { (n ≤ most_floats) × (k * most_floats ≤ length d.now) }
-    requires k_in_bounds { (a + k * 4 ≤ length s.old) × (c + n * 4 ≤ length s.old) }
-    requires by_index { (l j : ℕ) → l < k → j < n → get_or d.now (l * most_floats + j) nan ≡ float_at s.old (b + l * pitch + j * 4) }
-    ensures { s.new ≡ put_row c n 4 (float_row s.old pitch k a b c) s.old }
+// The first row of C; d holds the values of B.
+fn multiply_row(s: &mut [u8], d: &[f32], p: Product)
+    requires n_le_most_floats { (p.n ≤ most_floats) × (p.k * most_floats ≤ length d.now) }
+    requires k_in_bounds { (p.a + p.k * 4 ≤ length s.old) × (p.c + p.n * 4 ≤ length s.old) }
+    requires fetched { Fetched d.now p s.old }
+    ensures { s.new ≡ put_row p.c p.n 4 (float_row s.old p.pitch p.k p.a p.b p.c) s.old }
 {
     let mut sums = [0.0f32; FLOATS];
-    fetch_row(&mut sums, 0, s, c, n);
-    add_products(&mut sums, d, s, a, k);
-    store_row(s, &sums, c, n);
+    fetch_row(&mut sums, 0, s, p.c, p.n);
+    add_products(&mut sums, d, s, p.a, p.k);
+    store_row(s, &sums, p.c, p.n);
 }
 
 // Each sum of two rows plus x or y times its value of the row at `at`.
+// Two rows by name, and not an array of rows: LLVM then keeps the sums of both in registers.
 fn mac_two(sums: &mut [f32], others: &mut [f32], d: &[f32], at: usize, x: f32, y: f32)
     requires most_floats_in_bounds { (most_floats ≤ length sums.old) × (most_floats ≤ length others.old) }
     requires most_floats_in_bounds_2 { at + most_floats ≤ length d.now }
     ensures by_index { (j : ℕ) → j < most_floats → get_or sums.new j nan ≡ multiply_add (get_or sums.old j nan) x (get_or d.now (at + j) nan) }
     ensures by_index_2 { (j : ℕ) → j < most_floats → get_or others.new j nan ≡ multiply_add (get_or others.old j nan) y (get_or d.now (at + j) nan) }
 {
-    let mut j = 0;
-    while j < FLOATS {
-        sums[j] = unit_binary32::multiply_add(sums[j], x, d[at + j]);
-        others[j] = unit_binary32::multiply_add(others[j], y, d[at + j]);
-        j += 1;
+    for j in 0..FLOATS {
+        sums[j] = multiply_add(sums[j], x, d[at + j]);
+        others[j] = multiply_add(others[j], y, d[at + j]);
     }
 }
 
@@ -142,204 +116,110 @@ fn add_two(sums: &mut [f32], others: &mut [f32], d: &[f32], s: &[u8], a: usize, 
     ensures by_index { (j : ℕ) → j < most_floats → get_or sums.new j nan ≡ float_sum (get_or sums.old j nan) k (λ l. float_at s.now (a + l * 4)) (λ l. get_or d.now (l * most_floats + j) nan) }
     ensures by_index_2 { (j : ℕ) → j < most_floats → get_or others.new j nan ≡ float_sum (get_or others.old j nan) k (λ l. float_at s.now (e + l * 4)) (λ l. get_or d.now (l * most_floats + j) nan) }
 {
-    let mut l = 0;
-    let mut from = a;
-    let mut also = e;
-    let mut row = 0;
-    while l < k {
-        let x = unit_binary32::value_of(unit_element::read4(s, from));
-        let y = unit_binary32::value_of(unit_element::read4(s, also));
-        mac_two(sums, others, d, row, x, y);
-        from += 4;
-        also += 4;
-        row += FLOATS;
-        l += 1;
+    for l in 0..k {
+        let x = value_of(u32::read(s, a + l * 4));
+        let y = value_of(u32::read(s, e + l * 4));
+        mac_two(sums, others, d, l * FLOATS, x, y);
     }
 }
 
-// Two rows of C, of FLOATS columns each.
-fn multiply_two(s: &mut [u8], d: &[f32], a: usize, b: usize, c: usize, pitch: usize, k: usize)
-    requires most_floats_in_bounds { k * most_floats ≤ length d.now }
-    requires k_in_bounds { (a + pitch + k * 4 ≤ length s.old) × (c + 4 * pitch + most_floats * 4 ≤ length s.old) }
-    requires by_index { (l j : ℕ) → l < k → j < most_floats → get_or d.now (l * most_floats + j) nan ≡ float_at s.old (b + l * pitch + j * 4) }
-    ensures { s.new ≡ put_tile (λ i. c + i * (4 * pitch)) 2 most_floats 4 (λ i. float_row s.old pitch k (a + i * pitch) b (c + i * (4 * pitch))) s.old }
+// The first two rows of C, of FLOATS columns each; d holds the values of B.
+fn multiply_two(s: &mut [u8], d: &[f32], p: Product)
+    requires n_value { p.n ≡ most_floats }
+    requires most_floats_in_bounds { p.k * most_floats ≤ length d.now }
+    requires k_in_bounds { (p.a + p.pitch + p.k * 4 ≤ length s.old) × (p.c + 4 * p.pitch + most_floats * 4 ≤ length s.old) }
+    requires fetched { Fetched d.now p s.old }
+    ensures { s.new ≡ floats_added (first_rows p 2) s.old }
 {
-    let next = c + 4 * pitch;
+    let next = p.c + 4 * p.pitch;
     let mut sums = [0.0f32; FLOATS];
     let mut others = [0.0f32; FLOATS];
-    fetch_row(&mut sums, 0, s, c, FLOATS);
+    fetch_row(&mut sums, 0, s, p.c, FLOATS);
     fetch_row(&mut others, 0, s, next, FLOATS);
-    add_two(&mut sums, &mut others, d, s, a, a + pitch, k);
-    store_row(s, &sums, c, FLOATS);
+    add_two(&mut sums, &mut others, d, s, p.a, p.a + p.pitch, p.k);
+    store_row(s, &sums, p.c, FLOATS);
     store_row(s, &others, next, FLOATS);
 }
 
-// The first rows of the m of C that are left, two where they have FLOATS columns; how many.
-fn multiply_next(
-    s: &mut [u8],
-    d: &[f32],
-    a: usize,
-    b: usize,
-    c: usize,
-    pitch: usize,
-    m: usize,
-    k: usize,
-    n: usize,
-) -> usize
-    requires m_nonzero { (0 < m) × ((n ≤ most_floats) × (k * most_floats ≤ length d.now)) }
-    requires k_in_bounds { (a + m * pitch + k * 4 ≤ length s.old + pitch) × (c + m * (4 * pitch) + n * 4 ≤ length s.old + 4 * pitch) }
-    requires by_index { (l j : ℕ) → l < k → j < n → get_or d.now (l * most_floats + j) nan ≡ float_at s.old (b + l * pitch + j * 4) }
-    ensures result_nonzero { (0 < result) × (result ≤ m) }
-    ensures s_after { s.new ≡ put_tile (λ i. c + i * (4 * pitch)) result n 4 (λ i. float_row s.old pitch k (a + i * pitch) b (c + i * (4 * pitch))) s.old }
+// The first rows of C, two where they have FLOATS columns; how many.
+fn multiply_next(s: &mut [u8], d: &[f32], p: Product) -> usize
+    requires m_nonzero { (0 < p.m) × ((p.n ≤ most_floats) × (p.k * most_floats ≤ length d.now)) }
+    requires lies_in { LiesIn p 4 4 (length s.old) }
+    requires fetched { Fetched d.now p s.old }
+    ensures result_nonzero { (0 < result) × (result ≤ p.m) }
+    ensures s_after { s.new ≡ floats_added (first_rows p result) s.old }
 {
-    if n == FLOATS {
-        if m >= 2 {
-            multiply_two(s, d, a, b, c, pitch, k);
-            return 2;
-        }
+    if p.n == FLOATS && p.m >= 2 {
+        multiply_two(s, d, p);
+        return 2;
     }
-    multiply_row(s, d, a, b, c, pitch, k, n);
+    multiply_row(s, d, p);
     1
 }
 
 // A block, in all rows of C; d has room for the values of B.
-fn multiply_with(
-    s: &mut [u8],
-    d: &mut [f32],
-    a: usize,
-    b: usize,
-    c: usize,
-    pitch: usize,
-    m: usize,
-    k: usize,
-    n: usize,
-)
-    requires n_le_most_floats { (n ≤ most_floats) × ((k * most_floats ≤ length d.old) × (pitch ≤ most_pitch)) }
-    requires n_bound { (n * 4 ≤ pitch) × (k * 4 ≤ pitch) }
-    requires k_bound { (a + m * pitch + k * 4 ≤ c + pitch) × ((b + k * pitch ≤ c) × ((c ≤ length s.old) × (c + m * (4 * pitch) + n * 4 ≤ length s.old + 4 * pitch))) }
-    ensures { s.new ≡ put_tile (λ i. c + i * (4 * pitch)) m n 4 (λ i. float_row s.old pitch k (a + i * pitch) b (c + i * (4 * pitch))) s.old }
+fn multiply_with(s: &mut [u8], d: &mut [f32], p: Product)
+    requires n_le_most_floats { (p.n ≤ most_floats) × (p.k * most_floats ≤ length d.old) }
+    requires lies_in { LiesIn p 4 4 (length s.old) }
+    ensures { s.new ≡ floats_added p s.old }
 {
-    fetch_tile(d, s, b, pitch, k, n);
-    let step = 4 * pitch;
+    fetch_tile(d, s, p.b, p.pitch, p.k, p.n);
     let mut i = 0;
-    let mut from = a;
-    let mut to = c;
-    while i < m {
-        let rows = multiply_next(s, d, from, b, to, pitch, m - i, k, n);
-        from += rows * pitch;
-        to += rows * step;
-        i += rows;
+    // A while: its step is two rows or one, which no range has.
+    while i < p.m {
+        i += multiply_next(s, d, p.rows(i, p.m - i));
     }
 }
 
 // The same, with no more room than k asks for: it is cleared each time.
-fn multiply_rows(
-    s: &mut [u8],
-    a: usize,
-    b: usize,
-    c: usize,
-    pitch: usize,
-    m: usize,
-    k: usize,
-    n: usize,
-)
-    requires n_le_most_floats { (n ≤ most_floats) × ((k ≤ most_terms) × (pitch ≤ most_pitch)) }
-    requires n_bound { (n * 4 ≤ pitch) × (k * 4 ≤ pitch) }
-    requires k_bound { (a + m * pitch + k * 4 ≤ c + pitch) × ((b + k * pitch ≤ c) × ((c ≤ length s.old) × (c + m * (4 * pitch) + n * 4 ≤ length s.old + 4 * pitch))) }
-    ensures { s.new ≡ put_tile (λ i. c + i * (4 * pitch)) m n 4 (λ i. float_row s.old pitch k (a + i * pitch) b (c + i * (4 * pitch))) s.old }
+fn multiply_rows(s: &mut [u8], p: Product)
+    requires n_le_most_floats { (p.n ≤ most_floats) × (p.k ≤ most_terms) }
+    requires lies_in { LiesIn p 4 4 (length s.old) }
+    ensures { s.new ≡ floats_added p s.old }
 {
-    if k <= 8 {
+    if p.k <= 8 {
         let mut d = [0.0f32; VALUES / 2];
-        multiply_with(s, &mut d, a, b, c, pitch, m, k, n);
+        multiply_with(s, &mut d, p);
         return;
     }
     let mut d = [0.0f32; VALUES];
-    multiply_with(s, &mut d, a, b, c, pitch, m, k, n);
+    multiply_with(s, &mut d, p);
 }
 
-// All terms of at most FLOATS columns, a block after another.
-fn multiply_terms(
-    s: &mut [u8],
-    a: usize,
-    b: usize,
-    c: usize,
-    pitch: usize,
-    m: usize,
-    k: usize,
-    n: usize,
-)
-    requires n_le_most_floats { (n ≤ most_floats) × ((k ≤ most_pitch) × (pitch ≤ most_pitch)) }
-    requires n_bound { (n * 4 ≤ pitch) × (k * 4 ≤ pitch) }
-    requires k_bound { (a + m * pitch + k * 4 ≤ c + pitch) × ((b + k * pitch ≤ c) × ((c ≤ length s.old) × (c + m * (4 * pitch) + n * 4 ≤ length s.old + 4 * pitch))) }
-    ensures { s.new ≡ put_tile (λ i. c + i * (4 * pitch)) m n 4 (λ i. float_row s.old pitch k (a + i * pitch) b (c + i * (4 * pitch))) s.old }
+// All terms of at most FLOATS columns, a block after another; where there is no term, a block of none.
+// It and multiply_blocks are unit_arithmetic's over another kernel: one function for both takes that as a closure with its law, and is longer.
+fn multiply_terms(s: &mut [u8], p: Product)
+    requires n_le_most_floats { p.n ≤ most_floats }
+    requires lies_in { LiesIn p 4 4 (length s.old) }
+    ensures { s.new ≡ floats_added p s.old }
 {
-    let mut l = 0;
-    let mut from = a;
-    let mut row = b;
-    loop {
-        let terms = unit_arithmetic::least(k - l, unit_element::TERMS);
-        multiply_rows(s, from, row, c, pitch, m, terms, n);
-        l += terms;
-        if l >= k {
-            return;
-        }
-        from += terms * 4;
-        row += terms * pitch;
+    for l in (0..p.k.max(1)).step_by(TERMS) {
+        let terms = TERMS.min(p.k - l);
+        multiply_rows(s, p.terms(l, terms, 4));
     }
 }
 
 // All columns and terms.
-fn multiply_blocks(
-    s: &mut [u8],
-    a: usize,
-    b: usize,
-    c: usize,
-    pitch: usize,
-    m: usize,
-    k: usize,
-    n: usize,
-)
-    requires n_le_most_pitch { (n ≤ most_pitch) × ((k ≤ most_pitch) × (pitch ≤ most_pitch)) }
-    requires n_bound { (n * 4 ≤ pitch) × (k * 4 ≤ pitch) }
-    requires pitch_bound { (a + m * pitch ≤ c) × ((b + k * pitch ≤ c) × (c + m * (4 * pitch) ≤ length s.old)) }
-    ensures { s.new ≡ put_tile (λ i. c + i * (4 * pitch)) m n 4 (λ i. float_row s.old pitch k (a + i * pitch) b (c + i * (4 * pitch))) s.old }
+fn multiply_blocks(s: &mut [u8], p: Product)
+    requires lies_in { LiesIn p 4 4 (length s.old) }
+    ensures { s.new ≡ floats_added p s.old }
 {
-    if m == 0 {
+    if p.m == 0 {
         return;
     }
-    let mut j = 0;
-    let mut from = b;
-    let mut to = c;
-    while j < n {
-        let columns = unit_arithmetic::least(n - j, FLOATS);
-        multiply_terms(s, a, from, to, pitch, m, k, columns);
-        from += columns * 4;
-        to += columns * 4;
-        j += columns;
+    for j in (0..p.n).step_by(FLOATS) {
+        let columns = FLOATS.min(p.n - j);
+        multiply_terms(s, p.columns(j, columns, 4, 4));
     }
 }
 
 // Multiplies tile registers a and b and adds the product to accumulator d.
-pub fn multiply_tile(
-    registers: &mut [u8],
-    rows: usize,
-    pitch: usize,
-    d: usize,
-    a: usize,
-    b: usize,
-    m: usize,
-    k: usize,
-    n: usize,
-)
+pub fn multiply_tile(registers: &mut [u8], t: Tiles, d: usize, a: usize, b: usize)
     requires d_bound { (d < 2) × ((a < 8) × (b < 8)) }
-    requires pitch_bound { (rows * pitch ≤ most_size) × ((pitch ≤ most_pitch) × (length registers.old ≡ 16 * (rows * pitch))) }
-    requires m_le_rows { (m ≤ rows) × ((k ≤ rows) × (k ≤ most_pitch)) }
-    requires n_bound { (n * 4 ≤ pitch) × (k * 4 ≤ pitch) }
-    ensures { registers.new ≡ float_tile (shape rows pitch) d a b m k n registers.old }
+    requires registers { Registers t (length registers.old) }
+    requires m_le_rows { (t.m ≤ t.rows) × ((t.k ≤ t.rows) × (t.k ≤ most_pitch)) }
+    requires n_bound { (t.n * 4 ≤ t.pitch) × (t.k * 4 ≤ t.pitch) }
+    ensures { registers.new ≡ float_tile (shape_of t) d a b t.m t.k t.n registers.old }
 {
-    let size = rows * pitch;
-    let at_a = a * size;
-    let at_b = b * size;
-    let at_c = (8 + 4 * d) * size;
-    multiply_blocks(registers, at_a, at_b, at_c, pitch, m, k, n);
+    multiply_blocks(registers, t.product(d, a, b));
 }

@@ -1,12 +1,11 @@
 -- What each return of the two moves has to show.
-use Rattle.numbers.proofs.Kit.{◌≡◌, refl, ap, ap₂, ◌∙◌, subst, Bool, true, false, cond, List, [], ◌∷◌, ℕ, ◌+◌, ◌*◌}
+use Rattle.numbers.proofs.Kit.{◌≡◌, refl, ap, ap₂, ◌∙◌, subst, Bool, true, false, cond, List, [], ◌∷◌, ℕ, ◌+◌, ◌*◌, Err}
 use Rattle.numbers.specs.Tile.{put_tile, mark_tile}
 use Rattle.machine.specs.declared.Machine.{Machine}
 use Rattle.machine.specs.declared.Form.{Form}
 use Rattle.machine.specs.declared.Form.TheVariants.{Plain, Transposed}
-use Rattle.machine.specs.declared.Answer.{Answer}
-use Rattle.machine.specs.declared.Answer.TheVariants.{Done, WrongRegister}
-use Rattle.machine.specs.Answers.{Check, verdict, is_done}
+use Rattle.machine.specs.declared.Refusal.TheVariants.{WrongRegister}
+use Rattle.machine.specs.Answers.{Check, verdict, is_done, Answer, Done}
 use Rattle.machine.specs.Geometry.{Parameters, State, state_of}
 use Rattle.machine.specs.Vectors.{Vectors, vector_at, vector_bytes, aligned}
 use Rattle.machine.specs.Setting.{sew}
@@ -126,7 +125,7 @@ module _ (m : Machine) (regs marks : List ℕ) (f : Form) (r v first count : ℕ
 
 module _ (m : Machine) (regs marks : List ℕ) (inward : Bool) (f : Form) (r v first : ℕ) (W : Vectors) where
   -- a misaligned one
-  pub misaligned : aligned W v ≡ false → Moves m (moved inward W f r v first) regs marks W.file WrongRegister regs marks W.file
+  pub misaligned : aligned W v ≡ false → Moves m (moved inward W f r v first) regs marks W.file (Err WrongRegister) regs marks W.file
   misaligned a = record {
     inside = record { answer-is = λ z. rw a; registers-are = refl; marks-are = refl };
     outside = record { answer-is = λ z. rw a; vectors-are = refl };

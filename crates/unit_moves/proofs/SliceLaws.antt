@@ -1,15 +1,14 @@
 -- A slice whose checks of answers 2 and 4 passed lies in its accumulator, and its group in the vector file; and what answer 5 names.
 use Rattle.numbers.proofs.Kit.{◌≡◌, refl, sym, subst, Bool, true, false, cond, not, List, [], ◌∷◌, ℕ, suc, ◌+◌, ◌*◌, ◌/◌, ◌^◌, ◌≤◌, ◌<◌, mul-le-mul_right}
-use Rattle.numbers.proofs.Kit.{div-le_self, arith, eqb, length, get_or, leb-true, not-true}
+use Rattle.numbers.proofs.Kit.{div-le_self, arith, eqb, length, get_or, leb-true, not-true, Err}
 use Rattle.numbers.specs.Bounds.{most_elen}
 use Rattle.machine.specs.declared.Machine.{Machine}
 use Rattle.machine.specs.declared.Form.{Form}
 use Rattle.machine.specs.declared.Form.TheVariants.{Plain, Transposed}
 use Rattle.machine.specs.declared.Matrix.TheVariants.{MatrixC}
-use Rattle.machine.specs.declared.Answer.{Answer}
-use Rattle.machine.specs.declared.Answer.TheVariants.{Done, Unwritten}
-use Rattle.machine.specs.Tests.{is_in, all, first}
-use Rattle.machine.specs.Answers.{reply, verdict, is_done}
+use Rattle.machine.specs.declared.Refusal.TheVariants.{Unwritten}
+use Rattle.machine.specs.Tests.{is_in, all}
+use Rattle.machine.specs.Answers.{reply, verdict, is_done, Answer, Done}
 use Rattle.machine.specs.Geometry.{Parameters, State, state_of, start_of, pitch_of}
 use Rattle.machine.specs.Vectors.{vector_bytes, file_bytes}
 use Rattle.machine.specs.Setting.{chosen, sew, mill}
@@ -151,22 +150,22 @@ module _ (f : Form) (start : ℕ) (ms : List ℕ) (at : ℕ → ℕ) (rows cols 
   pub needs-done : is_done found ≡ true → Done ≡ wanted
   needs-done = go (marked ms at rows (cols * w))
     where
-      go : (t : Bool) → is_done (cond t Done (Unwritten i j)) ≡ true → Done ≡ cond t Done (unwritten_in f start i j)
+      go : (t : Bool) → is_done (cond t Done (Err (Unwritten i j))) ≡ true → Done ≡ cond t Done (Err (unwritten_in f start i j))
       go true h = refl
       go false h = absurd (false-true h)
 
-  pub needs-named : is_done found ≡ false → unwritten_in f start (reply found).row (reply found).column ≡ wanted
+  pub needs-named : is_done found ≡ false → Err (unwritten_in f start (reply found).row (reply found).column) ≡ wanted
   needs-named = go (marked ms at rows (cols * w))
     where
-      go : (t : Bool) → is_done (cond t Done (Unwritten i j)) ≡ false
-          → unwritten_in f start (reply (cond t Done (Unwritten i j))).row (reply (cond t Done (Unwritten i j))).column ≡ cond t Done (unwritten_in f start i j)
+      go : (t : Bool) → is_done (cond t Done (Err (Unwritten i j))) ≡ false
+          → Err (unwritten_in f start (reply (cond t Done (Err (Unwritten i j)))).row (reply (cond t Done (Err (Unwritten i j)))).column) ≡ cond t Done (Err (unwritten_in f start i j))
       go true h = absurd (false-true (sym h))
       go false h = refl
 
   pub needs-bounded : ((reply found).row ≤ rows) × ((reply found).column ≤ cols)
   needs-bounded = go (marked ms at rows (cols * w))
     where
-      go : (t : Bool) → ((reply (cond t Done (Unwritten i j))).row ≤ rows) × ((reply (cond t Done (Unwritten i j))).column ≤ cols)
+      go : (t : Bool) → ((reply (cond t Done (Err (Unwritten i j)))).row ≤ rows) × ((reply (cond t Done (Err (Unwritten i j)))).column ≤ cols)
       go true = (omega arith, omega arith)
       go false = (
         first-le rows (λ i. not (all (cols * w) (λ b. eqb (get_or ms (at i + b) 0) 1))),

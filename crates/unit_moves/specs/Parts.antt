@@ -4,8 +4,7 @@ use Rattle.numbers.specs.Kit.{Bool, cond, List, [], ℕ}
 use Rattle.machine.specs.declared.Machine.{Machine}
 use Rattle.machine.specs.declared.Form.{Form}
 use Rattle.machine.specs.declared.Matrix.TheVariants.{MatrixC}
-use Rattle.machine.specs.declared.Answer.{Answer}
-use Rattle.machine.specs.Answers.{verdict, is_done}
+use Rattle.machine.specs.Answers.{verdict, is_done, Answer}
 use Rattle.machine.specs.Geometry.{State, state_of, pitch_of}
 use Rattle.machine.specs.Operation.{Operation}
 use Rattle.machine.specs.MoveWords.{corner_of, slice_rows, slice_cols}

@@ -16,8 +16,7 @@ ghost use Rattle.unit_element.specs.Element.{Width};
 ghost use Rattle.unit_tile.specs.Checks.{RowsIn};
 ghost use Rattle.unit_moves.specs.Parts.{slice_placed, moved, MovesOut, MovesIn, Moves};
 
-use machine::{Answer, Dimension, Form, Machine, Matrix};
-use unit_answers::is_done;
+use machine::{Answer, Dimension, Form, Machine, Matrix, Refusal};
 use unit_geometry::{Placed, tile_of};
 use unit_row::write_row;
 use unit_settings::{fits, is_mill, sew_bytes};
@@ -70,21 +69,21 @@ fn check_slice(m: Machine, form: Form, first: u64, count: u64) -> Answer
     ensures { result ≡ verdict (slice_fits (ours m) form first count (state_of m [] [])) }
 {
     if is_mill(m.mtype) {
-        return Answer::IllegalType;
+        return Err(Refusal::IllegalType);
     }
     if !fits(m, Dimension::DimensionM) {
-        return Answer::TileTooLarge;
+        return Err(Refusal::TileTooLarge);
     }
     if !fits(m, Dimension::DimensionN) {
-        return Answer::TileTooLarge;
+        return Err(Refusal::TileTooLarge);
     }
     if !lies_in(first, count, lines_of(m, form)) {
-        return Answer::TileTooLarge;
+        return Err(Refusal::TileTooLarge);
     }
     if !fits_register(line_of(m, form), sew_bytes(m.mtype) as u64) {
-        return Answer::TileTooLarge;
+        return Err(Refusal::TileTooLarge);
     }
-    Answer::Done
+    Ok(())
 }
 
 // The slice of accumulator r: as many rows or columns from the first on, of elements of w bytes.
@@ -112,16 +111,16 @@ fn slice_of(m: Machine, form: Form, r: usize, first: usize, count: usize, w: usi
 }
 
 // Answer 5 with row and column of the accumulator, from those of the slice.
-fn unwritten_in(form: Form, first: u64, row: u64, column: u64) -> Answer
+fn unwritten_in(form: Form, first: u64, row: u64, column: u64) -> Refusal
     requires { (first + row < 2 ^ 64) × (first + column < 2 ^ 64) }
     ensures { result ≡ unwritten_in form first row column }
 {
     match form {
-        Form::Plain => Answer::Unwritten {
+        Form::Plain => Refusal::Unwritten {
             row: first + row,
             column: column,
         },
-        Form::Transposed => Answer::Unwritten {
+        Form::Transposed => Refusal::Unwritten {
             row: row,
             column: first + column,
         },
@@ -136,107 +135,82 @@ fn slice_marks(marks: &[u8], form: Form, first: u64, p: Placed, w: usize) -> Ans
     ensures { result ≡ verdict (slice_needs form first marks.now (λ i. p.start + i * p.pitch) p.rows p.columns w ∷ []) }
 {
     let found = unit_tile::first_unmarked(marks, p.start, p.pitch, p.rows, p.columns, w);
-    if is_done(found) {
-        return Answer::Done;
+    match found {
+        Ok(()) => Ok(()),
+        Err(_) => {
+            let named = unit_answers::reply_of(found);
+            Err(unwritten_in(form, first, named.row, named.column))
+        }
     }
-    let named = unit_answers::reply_of(found);
-    unwritten_in(form, first, named.row, named.column)
 }
 
-// Copies rows of cols elements of w bytes, from rows that lie apart bytes apart to rows that lie pitch bytes apart.
-fn copy_rows(
-    dst: &mut [u8],
-    src: &[u8],
-    to: usize,
+// The rows that a slice is copied from: where the first starts, and the bytes from row to row.
+#[derive(Clone, Copy)]
+struct Source {
+    start: usize,
     pitch: usize,
-    from: usize,
-    apart: usize,
-    rows: usize,
-    cols: usize,
-    w: usize,
-)
-    requires rows_in { RowsIn to pitch rows (cols * w) (length dst.old) }
-    requires rows_in_2 { RowsIn from apart rows (cols * w) (length src.now) }
-    requires w_bound { cols * w ≤ pitch }
-    ensures { dst.new ≡ put_tile (λ i. to + i * pitch) rows cols w (element src.now (λ i. from + i * apart) w) dst.old }
+}
+
+// Copies rows of elements of w bytes.
+fn copy_rows(dst: &mut [u8], src: &[u8], to: Placed, from: Source, w: usize)
+    requires rows_in { RowsIn to.start to.pitch to.rows (to.columns * w) (length dst.old) }
+    requires rows_in_2 { RowsIn from.start from.pitch to.rows (to.columns * w) (length src.now) }
+    requires w_bound { to.columns * w ≤ to.pitch }
+    ensures { dst.new ≡ put_tile (λ i. to.start + i * to.pitch) to.rows to.columns w (element src.now (λ i. from.start + i * from.pitch) w) dst.old }
 {
-    let bytes = cols * w;
-    let mut i = 0;
-    while i < rows {
-        let at = to + i * pitch;
-        let start = from + i * apart;
-        let end = start + bytes;
-        write_row(&mut dst[at..], &src[start..end]);
-        i += 1;
+    let bytes = to.columns * w;
+    for i in 0..to.rows {
+        let at = to.start + i * to.pitch;
+        let start = from.start + i * from.pitch;
+        write_row(&mut dst[at..], &src[start..start + bytes]);
     }
 }
 
-// Copies n elements that lie apart bytes apart to places one after another.
-fn copy_column(dst: &mut [u8], src: &[u8], to: usize, from: usize, apart: usize, n: usize, w: usize)
+// Copies n elements, one of each row, to places one after another.
+fn copy_column(dst: &mut [u8], src: &[u8], to: usize, from: Source, n: usize, w: usize)
     requires width { Width w }
     requires w_in_bounds { to + n * w ≤ length dst.old }
-    requires rows_in { RowsIn from apart n w (length src.now) }
-    ensures { dst.new ≡ put_row to n w (λ j. get_le src.now (from + j * apart) w) dst.old }
+    requires rows_in { RowsIn from.start from.pitch n w (length src.now) }
+    ensures { dst.new ≡ put_row to n w (λ j. get_le src.now (from.start + j * from.pitch) w) dst.old }
 {
-    let mut j = 0;
-    while j < n {
-        copy_element(dst, src, to + j * w, from + j * apart, w);
-        j += 1;
+    for j in 0..n {
+        copy_element(dst, src, to + j * w, from.start + j * from.pitch, w);
     }
 }
 
-// Copies columns of cols elements of w bytes, of rows that lie apart bytes apart, to rows that lie pitch bytes apart.
-fn copy_columns(
-    dst: &mut [u8],
-    src: &[u8],
-    to: usize,
-    pitch: usize,
-    from: usize,
-    apart: usize,
-    rows: usize,
-    cols: usize,
-    w: usize,
-)
-    requires rows_in { RowsIn to pitch rows (cols * w) (length dst.old) }
-    requires rows_in_2 { RowsIn from apart cols (rows * w) (length src.now) }
+// Copies columns of elements of w bytes to rows.
+fn copy_columns(dst: &mut [u8], src: &[u8], to: Placed, from: Source, w: usize)
+    requires rows_in { RowsIn to.start to.pitch to.rows (to.columns * w) (length dst.old) }
+    requires rows_in_2 { RowsIn from.start from.pitch to.columns (to.rows * w) (length src.now) }
     requires width { Width w }
-    ensures { dst.new ≡ put_tile (λ i. to + i * pitch) rows cols w (placed Transposed (element src.now (λ i. from + i * apart) w)) dst.old }
+    ensures { dst.new ≡ put_tile (λ i. to.start + i * to.pitch) to.rows to.columns w (placed Transposed (element src.now (λ i. from.start + i * from.pitch) w)) dst.old }
 {
-    if cols == 0 {
+    if to.columns == 0 {
         return;
     }
-    let mut i = 0;
-    while i < rows {
-        copy_column(dst, src, to + i * pitch, from + i * w, apart, cols, w);
-        i += 1;
+    for i in 0..to.rows {
+        let column = Source {
+            start: from.start + i * w,
+            pitch: from.pitch,
+        };
+        copy_column(dst, src, to.start + i * to.pitch, column, to.columns, w);
     }
 }
 
 // Copies a slice: element (i, j) of the rows in dst is element (i, j), or in the transposed form (j, i), of those in src.
-fn copy_slice(
-    form: Form,
-    dst: &mut [u8],
-    src: &[u8],
-    to: usize,
-    pitch: usize,
-    from: usize,
-    apart: usize,
-    rows: usize,
-    cols: usize,
-    w: usize,
-)
-    requires rows_in { RowsIn to pitch rows (cols * w) (length dst.old) }
-    requires rows_in_2 { RowsIn from apart (memory_rows form rows cols) (memory_cols form rows cols * w) (length src.now) }
-    requires w_bound { cols * w ≤ pitch }
+fn copy_slice(form: Form, dst: &mut [u8], src: &[u8], to: Placed, from: Source, w: usize)
+    requires rows_in { RowsIn to.start to.pitch to.rows (to.columns * w) (length dst.old) }
+    requires rows_in_2 { RowsIn from.start from.pitch (memory_rows form to.rows to.columns) (memory_cols form to.rows to.columns * w) (length src.now) }
+    requires w_bound { to.columns * w ≤ to.pitch }
     requires width { Width w }
-    ensures { dst.new ≡ put_tile (λ i. to + i * pitch) rows cols w (placed form (element src.now (λ i. from + i * apart) w)) dst.old }
+    ensures { dst.new ≡ put_tile (λ i. to.start + i * to.pitch) to.rows to.columns w (placed form (element src.now (λ i. from.start + i * from.pitch) w)) dst.old }
 {
     match form {
         Form::Plain => {
-            copy_rows(dst, src, to, pitch, from, apart, rows, cols, w);
+            copy_rows(dst, src, to, from, w);
         }
         Form::Transposed => {
-            copy_columns(dst, src, to, pitch, from, apart, rows, cols, w);
+            copy_columns(dst, src, to, from, w);
         }
     }
 }
@@ -258,30 +232,23 @@ fn slice_out(
     requires ms1_bound { (ms1 < 2) × ((vd + count ≤ 32) × (count ≤ 8)) }
     ensures { MovesOut m (Operation.move_out form ms1 vd first count) registers.now marks.now vectors.old result vectors.new }
 {
-    let fitting = check_slice(m, form, first, count);
-    if !is_done(fitting) {
-        return fitting;
-    }
+    check_slice(m, form, first, count)?;
     let w = sew_bytes(m.mtype);
     let p = slice_of(m, form, ms1, first as usize, count as usize, w);
-    let written = slice_marks(marks, form, first, p, w);
-    if !is_done(written) {
-        return written;
-    }
+    slice_marks(marks, form, first, p, w)?;
     let line = line_of(m, form) as usize;
-    copy_slice(
-        form,
-        vectors,
-        registers,
-        vd * 16,
-        16,
-        p.start,
-        p.pitch,
-        count as usize,
-        line,
-        w,
-    );
-    Answer::Done
+    let to = Placed {
+        start: vd * 16,
+        pitch: 16,
+        rows: count as usize,
+        columns: line,
+    };
+    let from = Source {
+        start: p.start,
+        pitch: p.pitch,
+    };
+    copy_slice(form, vectors, registers, to, from, w);
+    Ok(())
 }
 
 // Answers 2 and 4, and the registers from vs1 on to as many rows or columns of md, from the first on.
@@ -301,26 +268,16 @@ fn slice_in(
     requires md_bound { (md < 2) × ((vs1 + count ≤ 32) × (count ≤ 8)) }
     ensures { MovesIn m (Operation.move_in form md vs1 first count vectors.now) registers.old marks.old result registers.new marks.new }
 {
-    let fitting = check_slice(m, form, first, count);
-    if !is_done(fitting) {
-        return fitting;
-    }
+    check_slice(m, form, first, count)?;
     let w = sew_bytes(m.mtype);
     let p = slice_of(m, form, md, first as usize, count as usize, w);
-    copy_slice(
-        form,
-        registers,
-        vectors,
-        p.start,
-        p.pitch,
-        vs1 * 16,
-        16,
-        p.rows,
-        p.columns,
-        w,
-    );
+    let from = Source {
+        start: vs1 * 16,
+        pitch: 16,
+    };
+    copy_slice(form, registers, vectors, p, from, w);
     unit_tile::mark_tile(marks, p.start, p.pitch, p.rows, p.columns * w);
-    Answer::Done
+    Ok(())
 }
 
 // Answers 12, 2, 4 and 5, and a slice of accumulator r moved to the group from register v on, or in from there. With two callers, one
@@ -343,7 +300,7 @@ pub fn move_slice(
     ensures { Moves m (moved inward (vectors_of vectors.old group) form r v first) registers.old marks.old vectors.old result registers.new marks.new vectors.new }
 {
     if v as u64 % group != 0 {
-        return Answer::WrongRegister;
+        return Err(Refusal::WrongRegister);
     }
     if inward {
         return slice_in(m, registers, marks, vectors, form, r, v, first, group);

@@ -1,7 +1,7 @@
 -- Blocks of a row, numbers in pairs, and their sums.
-use Rattle.numbers.proofs.Kit.{◌≡◌, refl, sym, ap, ap₂, ◌∙◌, ⊎_elim, Bool, true, false, List, ℕ, zero, suc, ◌+◌, ◌*◌, ◌/◌, ◌%◌, ◌^◌, ◌≤◌, ◌<◌, add-zero}
-use Rattle.numbers.proofs.Kit.{add-suc, arith, ltb, length, set, get_or, replicate, length-set, get_or-set_same, get_or-set_other, ℤ, pos, ◌+ℤ◌, ◌*ℤ◌, zero-*ℤ}
-use Rattle.numbers.proofs.Kit.{+ℤ_idr, ltb-true, ltb-false, lt-ltb, le-ltb}
+use Rattle.numbers.proofs.Kit.{◌≡◌, refl, sym, ap, ap₂, ◌∙◌, ⊎_elim, List, ℕ, zero, suc, ◌+◌, ◌*◌, ◌/◌, ◌%◌, ◌^◌, ◌≤◌, ◌<◌, add-zero}
+use Rattle.numbers.proofs.Kit.{add-suc, arith, get_or, replicate, ℤ, pos, ◌+ℤ◌, ◌*ℤ◌, zero-*ℤ}
+use Rattle.numbers.proofs.Kit.{+ℤ_idr, lt-ltb, le-ltb}
 use Rattle.std.proofs.Common.{below_more}
 use Rattle.numbers.specs.Upto.{upto}
 use Rattle.numbers.specs.Reduce.{signed, reduce, sumℤ}
@@ -60,63 +60,10 @@ columns-more s₀ s out xs b c j n to at pairs z ln et ea es eo =
 
 -- ---- numbers in pairs
 
--- two stores, at o = to + 2 * j and after it
-pub pair-more : (F G : ℕ → ℕ) (l : List ℕ) (to j o x y : ℕ) → o ≡ to + 2 * j → o + 1 < length l
-    → ((r : ℕ) → r < j → (get_or l (to + 2 * r) 0 ≡ F r) × (get_or l (to + 2 * r + 1) 0 ≡ G r)) → x ≡ F j → y ≡ G j
-    → (r : ℕ) → r < j + 1 → (get_or (set (set l o x) (o + 1) y) (to + 2 * r) 0 ≡ F r) × (get_or (set (set l o x) (o + 1) y) (to + 2 * r + 1) 0 ≡ G r)
-pair-more F G l to j o x y e h all ex ey =
-    let m = set (set l o x) (o + 1) y in
-    let f : to + 2 * j + 1 ≡ o + 1 = omega arith in
-    below_more (λ r. (get_or m (to + 2 * r) 0 ≡ F r) × (get_or m (to + 2 * r + 1) 0 ≡ G r)) j
-    (λ r k. (
-      get_or-set_other (set l o x) (o + 1) (to + 2 * r) y 0 (λ s. omega arith) ∙ get_or-set_other l o (to + 2 * r) x 0 (λ s. omega arith) ∙ (all r k).0,
-      get_or-set_other (set l o x) (o + 1) (to + 2 * r + 1) y 0 (λ s. omega arith) ∙ get_or-set_other l o (to + 2 * r + 1) x 0 (λ s. omega arith) ∙ (all r k).1,
-    )) (
-      ap (λ (t : ℕ). get_or m t 0) (sym e) ∙ get_or-set_other (set l o x) (o + 1) o y 0 (λ s. omega arith) ∙ get_or-set_same l o x 0 (omega arith) ∙ ex,
-      ap (λ (t : ℕ). get_or m t 0) f ∙ get_or-set_same (set l o x) (o + 1) y 0 (simp length-set (omega arith)) ∙ ey,
-    )
-
-pub pair-keep : (l : List ℕ) (o x y i v : ℕ) → (i ≡ o → ⊥) → (i ≡ o + 1 → ⊥) → get_or l i 0 ≡ v → get_or (set (set l o x) (o + 1) y) i 0 ≡ v
-pair-keep l o x y i v h k e = get_or-set_other (set l o x) (o + 1) i y 0 k ∙ get_or-set_other l o i x 0 h ∙ e
-
 pub zeros : (n i : ℕ) → ◌≡◌ {A = ℕ} (get_or (replicate n 0) i 0) 0
 zeros zero i = refl
 zeros (suc n) zero = refl
 zeros (suc n) (suc i) = zeros n i
-
--- each pair four times: the pairs below an even l, unchanged below 4 * l, and the pair at l after them
-pub repeat-more : (F : ℕ → ℕ) (d m : List ℕ) (l h : ℕ) → l % 2 ≡ 0 → h ≡ 4 * l
-    → ((p q : ℕ) → 2 * p < l → q < 4 → (get_or d (8 * p + 2 * q) 0 ≡ F (2 * p)) × (get_or d (8 * p + 2 * q + 1) 0 ≡ F (2 * p + 1)))
-    → ((i : ℕ) → i < h → get_or m i 0 ≡ get_or d i 0)
-    → ((q : ℕ) → q < 4 → (get_or m (h + 2 * q) 0 ≡ F l) × (get_or m (h + 2 * q + 1) 0 ≡ F (l + 1)))
-    → (p q : ℕ) → 2 * p < l + 2 → q < 4 → (get_or m (8 * p + 2 * q) 0 ≡ F (2 * p)) × (get_or m (8 * p + 2 * q + 1) 0 ≡ F (2 * p + 1))
-repeat-more F d m l h z e all keep new p q lp lq = by_cases (ltb (2 * p) l) refl
-  where
-    by_cases : (t : Bool) → ltb (2 * p) l ≡ t → (get_or m (8 * p + 2 * q) 0 ≡ F (2 * p)) × (get_or m (8 * p + 2 * q + 1) 0 ≡ F (2 * p + 1))
-    by_cases true t =
-        let k = ltb-true (2 * p) l t in
-        let o = all p q k lq in
-        (keep (8 * p + 2 * q) (omega arith) ∙ o.0, keep (8 * p + 2 * q + 1) (omega arith) ∙ o.1)
-    by_cases false t =
-        let k = ltb-false (2 * p) l t in
-        let f : l ≡ 2 * p = omega arith in
-        let g : 8 * p ≡ h = omega arith in
-        (ap (λ (t : ℕ). get_or m (t + 2 * q) 0) g ∙ (new q lq).0 ∙ ap F f, ap (λ (t : ℕ). get_or m (t + 2 * q + 1) 0) g ∙ (new q lq).1 ∙ ap (λ (t : ℕ). F (t + 1)) f)
-
--- and zeros after an even l that is k or more
-pub repeat-all : (s : List ℕ) (a w k : ℕ) (d : List ℕ) (l : ℕ) → k ≤ l → l % 2 ≡ 0
-    → ((p q : ℕ) → 2 * p < l → q < 4 → (get_or d (8 * p + 2 * q) 0 ≡ padded s a w k (2 * p)) × (get_or d (8 * p + 2 * q + 1) 0 ≡ padded s a w k (2 * p + 1)))
-    → ((i : ℕ) → 4 * l ≤ i → get_or d i 0 ≡ 0)
-    → (p q : ℕ) → q < 4 → (get_or d (8 * p + 2 * q) 0 ≡ padded s a w k (2 * p)) × (get_or d (8 * p + 2 * q + 1) 0 ≡ padded s a w k (2 * p + 1))
-repeat-all s a w k d l lk z all none p q lq = by_cases (ltb (2 * p) l) refl
-  where
-    by_cases : (t : Bool) → ltb (2 * p) l ≡ t → (get_or d (8 * p + 2 * q) 0 ≡ padded s a w k (2 * p)) × (get_or d (8 * p + 2 * q + 1) 0 ≡ padded s a w k (2 * p + 1))
-    by_cases true t = all p q (ltb-true (2 * p) l t) lq
-    by_cases false t =
-        let g = ltb-false (2 * p) l t in
-        let e : 0 ≡ padded s a w k (2 * p) = rw (le-ltb (2 * p) k (omega arith)) in
-        let f : 0 ≡ padded s a w k (2 * p + 1) = rw (le-ltb (2 * p + 1) k (omega arith)) in
-        (none (8 * p + 2 * q) (omega arith) ∙ e, none (8 * p + 2 * q + 1) (omega arith) ∙ f)
 
 -- rows below an even l, unchanged below most_columns * l, and row l after them
 pub row_more : (F : ℕ → ℕ → ℕ) (d m : List ℕ) (l n to : ℕ) → n ≤ most_columns → l % 2 ≡ 0 → to ≡ most_columns * l

@@ -10,6 +10,8 @@ ghost use Rattle.unit_element.specs.Element.{Narrow};
 ghost use Rattle.unit_sums.specs.Rows.{product_row};
 ghost use Rattle.unit_pairs.specs.Pairs.{half, padded, pair_places, factor_places, place_of, pair, plus_pairs, lane, pairs_row};
 
+use unit_element::Element;
+
 // The places of a pair of rows of B (specs/Pairs.antt: pair_places).
 const PLACES: usize = 2 * unit_element::COLUMNS;
 
@@ -23,10 +25,9 @@ const FACTORS: usize = 4 * unit_element::TERMS;
 fn pair_of(x: u16, y: u16, v: u16, w: u16) -> u32
     ensures { result ≡ reduce (256 ^ 4) (signed (256 ^ 2) x *ℤ signed (256 ^ 2) y +ℤ signed (256 ^ 2) v *ℤ signed (256 ^ 2) w) }
 {
-    std::num::wrapping_add_u32(
-        unit_element::wrapping_mul32(unit_element::extend2to4(x), unit_element::extend2to4(y)),
-        unit_element::wrapping_mul32(unit_element::extend2to4(v), unit_element::extend2to4(w)),
-    )
+    let xy = u32::from_signed(x).wrapping_product(u32::from_signed(y));
+    let vw = u32::from_signed(v).wrapping_product(u32::from_signed(w));
+    xy.wrapping_add(vw)
 }
 
 // The pair at `from` and `at`. Its second half is read first: LLVM then finds the two products as one instruction.
@@ -57,10 +58,10 @@ fn read_block(s: &[u8], c: usize) -> Block
     ensures { (q : ℕ) → q < 4 → lane result q ≡ get_le s.now (c + q * 4) 4 }
 {
     Block {
-        e0: unit_element::read4(s, c),
-        e1: unit_element::read4(s, c + 4),
-        e2: unit_element::read4(s, c + 8),
-        e3: unit_element::read4(s, c + 12),
+        e0: u32::read(s, c),
+        e1: u32::read(s, c + 4),
+        e2: u32::read(s, c + 8),
+        e3: u32::read(s, c + 12),
     }
 }
 
@@ -69,10 +70,10 @@ fn write_block(s: &mut [u8], c: usize, x: Block)
     requires { c + 16 ≤ length s.old }
     ensures { s.new ≡ put_row c 4 4 (lane x) s.old }
 {
-    unit_element::write4(s, c, x.e0);
-    unit_element::write4(s, c + 4, x.e1);
-    unit_element::write4(s, c + 8, x.e2);
-    unit_element::write4(s, c + 12, x.e3);
+    u32::write(s, c, x.e0);
+    u32::write(s, c + 4, x.e1);
+    u32::write(s, c + 8, x.e2);
+    u32::write(s, c + 12, x.e3);
 }
 
 // x plus y, column by column.
@@ -80,10 +81,10 @@ fn plus(x: Block, y: Block) -> Block
     ensures { (q : ℕ) → q < 4 → lane result q ≡ (lane x q + lane y q) % 256 ^ 4 }
 {
     Block {
-        e0: std::num::wrapping_add_u32(x.e0, y.e0),
-        e1: std::num::wrapping_add_u32(x.e1, y.e1),
-        e2: std::num::wrapping_add_u32(x.e2, y.e2),
-        e3: std::num::wrapping_add_u32(x.e3, y.e3),
+        e0: x.e0.wrapping_add(y.e0),
+        e1: x.e1.wrapping_add(y.e1),
+        e2: x.e2.wrapping_add(y.e2),
+        e3: x.e3.wrapping_add(y.e3),
     }
 }
 
@@ -117,16 +118,11 @@ fn add_block(s: &mut [u8], c: usize, b: &[u16], o: usize, xs: &[u16], pairs: usi
         e3: 0,
     };
     let mut u = t;
-    let mut p = 0;
-    let mut at = o;
-    let mut h = 0;
-    while p < pairs {
+    for i in 0..pairs / 2 {
         sum = plus(plus(sum, t), u);
-        t = pairs_at(xs, h, b, at);
-        u = pairs_at(xs, h + 8, b, at + PLACES);
-        at += TWO_PAIRS;
-        h += 16;
-        p += 2;
+        let at = o + i * TWO_PAIRS;
+        t = pairs_at(xs, 16 * i, b, at);
+        u = pairs_at(xs, 16 * i + 8, b, at + PLACES);
     }
     write_block(s, c, plus(plus(sum, t), u));
 }
@@ -138,17 +134,12 @@ fn add_column(s: &mut [u8], c: usize, b: &[u16], o: usize, xs: &[u16], from: usi
     requires from_bound { (from + 2 ≤ 8) × (pairs * 8 ≤ length xs.now) }
     ensures { s.new ≡ put_le c 4 (plus_pairs (get_le s.old c 4) xs.now from b.now o pairs) s.old }
 {
-    let mut sum = unit_element::read4(s, c);
-    let mut p = 0;
-    let mut at = o;
-    let mut h = from;
-    while p < pairs {
-        sum = std::num::wrapping_add_u32(sum, pair_at(xs, h, b, at));
-        at += PLACES;
-        h += 8;
-        p += 1;
+    let mut sum = u32::read(s, c);
+    for p in 0..pairs {
+        let y = pair_at(xs, from + 8 * p, b, o + p * PLACES);
+        sum = sum.wrapping_add(y);
     }
-    unit_element::write4(s, c, sum);
+    u32::write(s, c, sum);
 }
 
 // At most three elements of C from `c` on, one after another.
@@ -158,16 +149,8 @@ fn add_columns(s: &mut [u8], c: usize, b: &[u16], o: usize, xs: &[u16], pairs: u
     requires pairs_in_bounds { pairs * 8 ≤ length xs.now }
     ensures { s.new ≡ put_row c n 4 (pairs_row s.old c xs.now b.now o pairs) s.old }
 {
-    let mut j = 0;
-    let mut to = c;
-    let mut at = o;
-    let mut h = 0;
-    while j < n {
-        add_column(s, to, b, at, xs, h, pairs);
-        to += 4;
-        at += 2;
-        h += 2;
-        j += 1;
+    for j in 0..n {
+        add_column(s, c + j * 4, b, o + 2 * j, xs, 2 * j, pairs);
     }
 }
 
@@ -178,16 +161,11 @@ fn add_row(s: &mut [u8], c: usize, b: &[u16], xs: &[u16], pairs: usize, n: usize
     requires pairs_value { (pairs % 2 ≡ 0) × (pairs * 8 ≤ length xs.now) }
     ensures { s.new ≡ put_row c n 4 (pairs_row s.old c xs.now b.now 0 pairs) s.old }
 {
-    let mut j = 0;
-    let mut to = c;
-    let mut at = 0;
-    while n - j >= 4 {
-        add_block(s, to, b, at, xs, pairs);
-        to += 16;
-        at += 8;
-        j += 4;
+    let blocks = n / 4;
+    for i in 0..blocks {
+        add_block(s, c + 16 * i, b, 8 * i, xs, pairs);
     }
-    add_columns(s, to, b, at, xs, pairs, n - j);
+    add_columns(s, c + 16 * blocks, b, 8 * blocks, xs, pairs, n % 4);
 }
 
 // x and y, four times from `o` on.
@@ -196,13 +174,9 @@ fn repeat4(d: &mut [u16], o: usize, x: u16, y: u16)
     ensures by_index { (q : ℕ) → q < 4 → (slice_index d.new (o + 2 * q) ≡ x) × (slice_index d.new (o + 2 * q + 1) ≡ y) }
     ensures by_index_2 { (i : ℕ) → (i < o) ⊎ (o + 8 ≤ i) → slice_index d.new i ≡ slice_index d.old i }
 {
-    let mut q: usize = 0;
-    let mut h = o;
-    while q < 4 {
-        d[h] = x;
-        d[h + 1] = y;
-        h += 2;
-        q += 1;
+    for q in 0..4 {
+        d[o + 2 * q] = x;
+        d[o + 2 * q + 1] = y;
     }
 }
 
@@ -214,21 +188,16 @@ fn repeat_row(d: &mut [u16], s: &[u8], a: usize, width: usize, k: usize)
     requires width_in_bounds { a + k * width ≤ length s.now }
     ensures { (p q : ℕ) → q < 4 → (slice_index d.new (8 * p + 2 * q) ≡ padded s.now a width k (2 * p)) × (slice_index d.new (8 * p + 2 * q + 1) ≡ padded s.now a width k (2 * p + 1)) }
 {
-    let mut l = 0;
-    let mut h = 0;
-    let mut at = a;
-    while l + 1 < k {
-        let x = unit_element::read_signed16(s, at, width);
-        at += width;
-        let y = unit_element::read_signed16(s, at, width);
-        at += width;
-        repeat4(d, h, x, y);
-        h += 8;
-        l += 2;
+    let pairs = k / 2;
+    for p in 0..pairs {
+        let at = a + 2 * p * width;
+        let x = u16::read_signed(s, at, width);
+        let y = u16::read_signed(s, at + width, width);
+        repeat4(d, 8 * p, x, y);
     }
-    if l < k {
-        let x = unit_element::read_signed16(s, at, width);
-        repeat4(d, h, x, 0);
+    if k % 2 == 1 {
+        let x = u16::read_signed(s, a + 2 * pairs * width, width);
+        repeat4(d, 8 * pairs, x, 0);
     }
 }
 
@@ -240,17 +209,9 @@ fn interleave(d: &mut [u16], to: usize, s: &[u8], p: usize, q: usize, width: usi
     ensures by_index { (j : ℕ) → j < n → (slice_index d.new (to + 2 * j) ≡ half s.now (p + j * width) width) × (slice_index d.new (to + 2 * j + 1) ≡ half s.now (q + j * width) width) }
     ensures by_index_2 { (i : ℕ) → i < to → slice_index d.new i ≡ slice_index d.old i }
 {
-    let mut j = 0;
-    let mut o = to;
-    let mut f = p;
-    let mut g = q;
-    while j < n {
-        d[o] = unit_element::read_signed16(s, f, width);
-        d[o + 1] = unit_element::read_signed16(s, g, width);
-        o += 2;
-        f += width;
-        g += width;
-        j += 1;
+    for j in 0..n {
+        d[to + 2 * j] = u16::read_signed(s, p + j * width, width);
+        d[to + 2 * j + 1] = u16::read_signed(s, q + j * width, width);
     }
 }
 
@@ -271,18 +232,14 @@ fn interleave_rows(
     requires pitch_in_bounds { b + k * pitch ≤ length s.now }
     ensures { (l j : ℕ) → l < k → j < n → slice_index d.new (place_of l j) ≡ half s.now (b + l * pitch + j * width) width }
 {
-    let mut l = 0;
-    let mut to = 0;
-    let mut row = b;
-    while l + 1 < k {
-        interleave(d, to, s, row, row + pitch, width, n);
-        row += pitch;
-        row += pitch;
-        to += PLACES;
-        l += 2;
+    let pairs = k / 2;
+    for p in 0..pairs {
+        let row = b + 2 * p * pitch;
+        interleave(d, p * PLACES, s, row, row + pitch, width, n);
     }
-    if l < k {
-        interleave(d, to, s, row, row, width, n);
+    if k % 2 == 1 {
+        let row = b + 2 * pairs * pitch;
+        interleave(d, pairs * PLACES, s, row, row, width, n);
     }
 }
 
@@ -356,15 +313,10 @@ fn multiply_with(
     ensures { s.new ≡ put_tile (λ i. c + i * (4 * pitch)) m n 4 (λ i. product_row s.old 4 width pitch k (a + i * pitch) b (c + i * (4 * pitch))) s.old }
 {
     interleave_tile(bs, s, b, pitch, width, k, n);
-    let step = 4 * pitch;
-    let mut i = 0;
-    let mut from = a;
-    let mut to = c;
-    while i < m {
+    for i in 0..m {
+        let from = a + i * pitch;
+        let to = c + i * (4 * pitch);
         multiply_row(s, bs, from, b, to, pitch, width, k, n);
-        from += pitch;
-        to += step;
-        i += 1;
     }
 }
 

@@ -1,5 +1,5 @@
 -- Ranges written over a block: they are what is read there, and one more behind those that stand there needs its own slot and the number.
-use Rattle.numbers.proofs.Kit.{◌≡◌, refl, sym, ap, ap₂, ◌∙◌, subst, ◌⊎◌, inl, inr, Bool, true, false, cond, ◌&&◌, ◌||◌, List, [], ◌∷◌, ◌++◌, ℕ, zero, suc}
+use Rattle.numbers.proofs.Kit.{◌≡◌, refl, sym, ap, ap₂, ◌∙◌, ◌⊎◌, inl, inr, Bool, true, false, cond, ◌&&◌, ◌||◌, List, [], ◌∷◌, ◌++◌, ℕ, zero, suc}
 use Rattle.numbers.proofs.Kit.{◌+◌, ◌-◌, ◌*◌, ◌≤◌, ◌<◌, ◌^◌, eq-or-lt_of_le, le_of_suc-le-suc, not-suc-le-zero, mod-eq_of_lt, arith, leb, ltb, eqb, length}
 use Rattle.numbers.proofs.Kit.{get_or, length-append, List·getD-append, List·getD-eq-default, get_or_at, leb-true, le-leb, lt-ltb, le-ltb, eqb-true, eq-eqb}
 use Rattle.numbers.proofs.Kit.{ne_eqb}
@@ -10,7 +10,7 @@ use Rattle.numbers.proofs.PutLaws.{upto_add}
 use Rattle.numbers.proofs.TileLaws.{le-cong, le_bytes, length-put_le, put_le-out, put_le-at}
 use Rattle.numbers.proofs.WordLaws.{put_le-same}
 use Rattle.numbers.proofs.BlockLaws.{le-or-lt}
-use Rattle.machine.specs.Tests.{all, every}
+use Rattle.machine.specs.Tests.{all}
 use Rattle.machine.specs.Geometry.{Range, range}
 use Rattle.machine.specs.Starting.{seal_ends, seals_end, most_seals}
 use Rattle.machine.specs.Faults.{seals_fit}

@@ -179,12 +179,8 @@ or-none a b = same_test (eqb (bit_or a b) 0) (eqb a 0 && eqb b 0) there back
         eq-eqb (bit_or a b) 0
         (ap₂ bit_or (eqb-true a 0 (and_left (eqb a 0) (eqb b 0) h)) (eqb-true b 0 (and_right (eqb a 0) (eqb b 0) h)) ∙ or_zero_l 0)
 
-pub or-three : (a b d : ℕ) → eqb (bit_or (bit_or a b) d) 0 ≡ eqb a 0 && (eqb b 0 && eqb d 0)
-or-three a b d = or-none (bit_or a b) d ∙ ap (λ (t : Bool). t && eqb d 0) (or-none a b) ∙ again (eqb a 0)
-  where
-    again : (t : Bool) → (t && eqb b 0) && eqb d 0 ≡ t && (eqb b 0 && eqb d 0)
-    again true = refl
-    again false = refl
+pub or-three : (a b d : ℕ) → eqb (bit_or a (bit_or b d)) 0 ≡ eqb a 0 && (eqb b 0 && eqb d 0)
+or-three a b d = or-none a (bit_or b d) ∙ ap (λ (t : Bool). eqb a 0 && t) (or-none b d)
 
 module _ (block : List ℕ) where
   pub behind-first : (i : ℕ) → slot_empty block (suc i) ≡ eqb (get_le block (88 + 16 * i) 8) 0 && eqb (get_le block (88 + 16 * i + 8) 8) 0

@@ -10,17 +10,10 @@ ghost use Rattle.machine.specs.Faults.{seals_fit};
 ghost use Rattle.unit_ranges.specs.Ranges.{block_bytes, slot_at, count_in, seals_in, put_range, put_seals};
 ghost use Rattle.unit_ranges.specs.Parts.{slot_empty, slot_sound, Around, Spanned};
 
-use numbers::smaller;
+use std::ops::Range;
 use unit_address::{as_signed, misses_range, row_address, rows_miss};
-use unit_element::{read8, write8};
+use unit_element::Element;
 use unit_start::seal_ends;
-
-// From one byte to behind another.
-#[derive(Clone, Copy)]
-pub struct Hull {
-    pub low: u64,
-    pub high: u64,
-}
 
 // The bytes of a machine's block.
 pub const BLOCK_BYTES: usize = 200;
@@ -30,10 +23,7 @@ pub fn slot_at(i: usize) -> usize
     requires { i < 8 }
     ensures { (result ≡ slot_at i) × (result + 16 ≤ block_bytes) }
 {
-    if i == 0 {
-        return 48;
-    }
-    72 + 16 * i
+    if i == 0 { 48 } else { 72 + 16 * i }
 }
 
 // Whether slot i of a block with so many ranges has one that ends where it may, or is 0.
@@ -43,15 +33,13 @@ fn slot_sound(block: &[u8], count: u64, i: usize) -> bool
     ensures { result ≡ slot_sound block.now count i }
 {
     let at = slot_at(i);
-    let start = read8(block, at);
-    let size = read8(block, at + 8);
+    let start = u64::read(block, at);
+    let size = u64::read(block, at + 8);
     if (i as u64) < count {
-        return seal_ends(start, size);
+        seal_ends(start, size)
+    } else {
+        start == 0 && size == 0
     }
-    if start != 0 {
-        return false;
-    }
-    size == 0
 }
 
 // Whether each slot is so.
@@ -59,12 +47,10 @@ fn slots_sound(block: &[u8], count: u64) -> bool
     requires { length block.now ≡ block_bytes }
     ensures { result ≡ all 8 (slot_sound block.now count) }
 {
-    let mut i = 0;
-    while i < 8 {
+    for i in 0..8 {
         if !slot_sound(block, count, i) {
             return false;
         }
-        i += 1;
     }
     true
 }
@@ -74,12 +60,10 @@ fn others_empty(block: &[u8]) -> bool
     requires { length block.now ≡ block_bytes }
     ensures { result ≡ all 7 (λ i. slot_empty block.now (suc i)) }
 {
-    let mut any = 0u64;
-    let mut i: usize = 0;
-    while i < 7 {
+    let mut any = 0;
+    for i in 0..7 {
         let at = 88 + 16 * i;
-        any = any | read8(block, at) | read8(block, at + 8);
-        i += 1;
+        any |= u64::read(block, at) | u64::read(block, at + 8);
     }
     any == 0
 }
@@ -89,12 +73,9 @@ fn one_sound(block: &[u8]) -> bool
     requires { length block.now ≡ block_bytes }
     ensures { result ≡ all 8 (slot_sound block.now 1) }
 {
-    let start = read8(block, 48);
-    let size = read8(block, 56);
-    if !seal_ends(start, size) {
-        return false;
-    }
-    others_empty(block)
+    let start = u64::read(block, 48);
+    let size = u64::read(block, 56);
+    seal_ends(start, size) && others_empty(block)
 }
 
 // Whether each slot of a block without a range is so.
@@ -102,15 +83,9 @@ fn none_sound(block: &[u8]) -> bool
     requires { length block.now ≡ block_bytes }
     ensures { result ≡ all 8 (slot_sound block.now 0) }
 {
-    let start = read8(block, 48);
-    let size = read8(block, 56);
-    if start != 0 {
-        return false;
-    }
-    if size != 0 {
-        return false;
-    }
-    others_empty(block)
+    let start = u64::read(block, 48);
+    let size = u64::read(block, 56);
+    start == 0 && size == 0 && others_empty(block)
 }
 
 // Whether a machine can hold the ranges in its block. None and one, the most common numbers, are looked at without a loop over the slots.
@@ -120,7 +95,7 @@ pub fn is_fit(block: &[u8]) -> bool
     if block.len() != BLOCK_BYTES {
         return false;
     }
-    let count = read8(block, 80);
+    let count = u64::read(block, 80);
     if count == 1 {
         return one_sound(block);
     }
@@ -138,36 +113,25 @@ pub fn count_of(block: &[u8]) -> usize
     requires { seals_fit (seals_in block.now) ≡ true }
     ensures { (result ≡ count_in block.now) × (result ≤ 8) }
 {
-    read8(block, 80) as usize
-}
-
-fn larger(a: u64, b: u64) -> u64
-    ensures { (a ≤ result) × (b ≤ result) × (result ≤ a + b) }
-{
-    if a > b { a } else { b }
+    u64::read(block, 80) as usize
 }
 
 // From the first byte of any range to behind the last.
-fn hull_of(block: &[u8], count: usize) -> Hull
+fn hull_of(block: &[u8], count: usize) -> Range<u64>
     requires block_value { seals_fit (seals_in block.now) ≡ true }
     requires count_value { count ≡ count_in block.now }
-    ensures { Around block.now count result.low result.high }
+    ensures { Around block.now count result.start result.end }
 {
-    let mut low = 18446744073709551615u64;
+    let mut low = u64::MAX;
     let mut high = 0u64;
-    let mut i = 0;
-    while i < count {
+    for i in 0..count {
         let at = slot_at(i);
-        let start = read8(block, at);
-        let end = start + read8(block, at + 8);
-        low = smaller(start, low);
-        high = larger(end, high);
-        i += 1;
+        let start = u64::read(block, at);
+        let end = start + u64::read(block, at + 8);
+        low = low.min(start);
+        high = high.max(end);
     }
-    Hull {
-        low: low,
-        high: high,
-    }
+    low..high
 }
 
 // Where the last row starts, of rows that lie in memory.
@@ -225,16 +189,13 @@ fn each_missed(
     requires n_bound { p + n < 2 ^ 64 }
     ensures { result ≡ rows_miss (sealed (seals_in block.now)) base stride rows bytes }
 {
-    let count = count_of(block);
-    let mut i = 0;
-    while i < count {
+    for i in 0..count_of(block) {
         let at = slot_at(i);
-        let start = read8(block, at);
-        let size = read8(block, at + 8);
+        let start = u64::read(block, at);
+        let size = u64::read(block, at + 8);
         if !range_missed(len, start, size, p, n, base, stride, rows, bytes) {
             return false;
         }
-        i += 1;
     }
     true
 }
@@ -261,12 +222,10 @@ fn apart_missed(
         return true;
     }
     let last = last_row(len, base, stride, rows, bytes);
-    let p = smaller(base as u64, last as u64);
-    let high = larger(base as u64, last as u64);
-    let n = high - p + bytes as u64;
-    each_missed(
-        len, block, p as usize, n as usize, base, stride, rows, bytes,
-    )
+    let p = base.min(last);
+    let high = base.max(last);
+    let n = high - p + bytes;
+    each_missed(len, block, p, n, base, stride, rows, bytes)
 }
 
 // Whether no byte of the rows, which lie in memory, is sealed: all ranges at once, as far as that tells.
@@ -289,9 +248,8 @@ pub fn several_missed(
         return true;
     }
     let hull = hull_of(block, count);
-    let low = hull.low;
-    let size = hull.high - low;
-    if rows_miss(len, low, size, base, stride, rows, bytes) {
+    let size = hull.end - hull.start;
+    if rows_miss(len, hull.start, size, base, stride, rows, bytes) {
         return true;
     }
     apart_missed(len, block, base, stride, rows, bytes)
@@ -319,8 +277,8 @@ pub fn rows_unsealed(
     if count != 1 {
         return several_missed(len, block, base, stride, rows, bytes);
     }
-    let start = read8(block, 48);
-    let size = read8(block, 56);
+    let start = u64::read(block, 48);
+    let size = u64::read(block, 56);
     rows_miss(len, start, size, base, stride, rows, bytes)
 }
 
@@ -331,8 +289,8 @@ pub fn put_range(block: &mut [u8], i: usize, start: u64, size: u64)
     ensures { block.new ≡ put_range i (range start size) block.old }
 {
     let at = slot_at(i);
-    write8(block, at, start);
-    write8(block, at + 8, size);
+    u64::write(block, at, start);
+    u64::write(block, at + 8, size);
 }
 
 // Clears the slots from slot `count` on.
@@ -341,10 +299,8 @@ pub fn clear_slots(block: &mut [u8], count: usize)
     requires count_bound { count ≤ 8 }
     ensures { block.new ≡ upto (8 - count) (λ i. put_range (count + i) (range 0 0)) block.old }
 {
-    let mut i = count;
-    while i < 8 {
+    for i in count..8 {
         put_range(block, i, 0, 0);
-        i += 1;
     }
 }
 
@@ -355,6 +311,6 @@ pub fn add_range(block: &mut [u8], start: u64, size: u64)
     ensures { block.new ≡ put_seals (seals_in block.old ++ (range start size ∷ [])) block.old }
 {
     let count = count_of(block);
-    write8(block, 80, count as u64 + 1);
+    u64::write(block, 80, count as u64 + 1);
     put_range(block, count, start, size);
 }

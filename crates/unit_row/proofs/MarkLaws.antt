@@ -1,19 +1,16 @@
--- The marks of a row, and whether each mark is 0 or 1.
+-- The marks of a row, whether each mark is 0 or 1, and a row that is copied.
+use Rattle.numbers.proofs.Kit.{◌++◌, max, drop, take, set, append_assoc, drop-cons, length, length-take-le, take-suc, take_all}
+use Rattle.std.proofs.lemmas.List.{set_at}
+use Rattle.std.proofs.lemmas.Bool.Decides.{nat_tests}
+use Rattle.numbers.specs.Upto.{upto}
 use Rattle.numbers.proofs.Kit.{◌≡◌, refl, sym, ap, ap₂, ◌∙◌, subst, Bool, true, false, ◌&&◌, List, [], ◌∷◌, ℕ, zero, suc, ◌+◌, ◌*◌, ◌-◌, ◌^◌, ◌≤◌, ◌<◌}
-use Rattle.numbers.proofs.Kit.{arith, add-one, eqb, ltb, get_or, ne_eqb, eq-eqb, eqb-true, lt-ltb, le-ltb, ltb-true, ltb-false}
+use Rattle.numbers.proofs.Kit.{arith, add-one, eqb, ltb, get_or, eq-eqb, eqb-true, ltb-true, ltb-false}
 use Rattle.numbers.specs.Tile.{get_le, byte_of}
 use Rattle.numbers.proofs.PutLaws.{le-byte}
 use Rattle.machine.specs.Tests.{all, every}
 use Rattle.machine.proofs.TestLaws.{all-at, all_true, same_test, Each, every-each, each-every}
-use Rattle.unit_address.proofs.TestLaws.{all-next, all_same, all-not}
 
 -- ---- the marks of a row
-
-pub row-bad : (ms : List ℕ) (p i : ℕ) → ¬ (get_or ms (p + i) 0 ≡ 1) → false ≡ all (i + 1) (λ b. eqb (get_or ms (p + b) 0) 1)
-row-bad ms p i h = all-not i (λ b. eqb (get_or ms (p + b) 0) 1) (ne_eqb (get_or ms (p + i) 0) 1 h)
-
-pub row-good : (ms : List ℕ) (p i : ℕ) (g : Bool) → get_or ms (p + i) 0 ≡ 1 → g ≡ all i (λ b. eqb (get_or ms (p + b) 0) 1) → g ≡ all (i + 1) (λ b. eqb (get_or ms (p + b) 0) 1)
-row-good ms p i g h e = e ∙ all_same i (λ b. eqb (get_or ms (p + b) 0) 1) (eq-eqb (get_or ms (p + i) 0) 1 h)
 
 -- the number of w bytes that are all 1
 abbrev ones : ℕ → ℕ
@@ -36,46 +33,21 @@ eight-marked ms p small = same_test (eqb (get_le ms p 8) 0x0101_0101_0101_0101) 
 
 -- ---- the largest mark
 
--- a larger one decides, and one that is not larger changes nothing
-pub most-more : (ms : List ℕ) (i most : ℕ) → most < get_or ms i 0 → ltb most 2 ≡ all i (λ k. ltb (get_or ms k 0) 2)
-    → ltb (get_or ms i 0) 2 ≡ all (i + 1) (λ k. ltb (get_or ms k 0) 2)
-most-more ms i most h e = go (ltb (get_or ms i 0) 2) refl
-  where
-    go : (t : Bool) → ltb (get_or ms i 0) 2 ≡ t → t ≡ all (i + 1) (λ k. ltb (get_or ms k 0) 2)
-    go true q = sym (all-next i (λ k. ltb (get_or ms k 0) 2) (sym e ∙ lt-ltb most 2 (omega (arith, ltb-true (get_or ms i 0) 2 q))) q)
-    go false q = all-not i (λ k. ltb (get_or ms k 0) 2) q
+larger-test : (a b : ℕ) → ltb (max a b) 2 ≡ (ltb a 2 && ltb b 2)
+larger-test a b = grind (arith, nat_tests)
 
-pub most-same : (ms : List ℕ) (i most : ℕ) → get_or ms i 0 ≤ most → ltb most 2 ≡ all i (λ k. ltb (get_or ms k 0) 2)
-    → ltb most 2 ≡ all (i + 1) (λ k. ltb (get_or ms k 0) 2)
-most-same ms i most h e = go (ltb (get_or ms i 0) 2) refl
-  where
-    go : (t : Bool) → ltb (get_or ms i 0) 2 ≡ t → ltb most 2 ≡ all (i + 1) (λ k. ltb (get_or ms k 0) 2)
-    go true q = e ∙ all_same i (λ k. ltb (get_or ms k 0) 2) q
-    go false q = le-ltb most 2 (omega (arith, ltb-false (get_or ms i 0) 2 q)) ∙ all-not i (λ k. ltb (get_or ms k 0) 2) q
+-- one more
+pub most-more : (ms : List ℕ) (i j most mark : ℕ) → j ≡ i + 1 → mark ≡ get_or ms i 0 → ltb most 2 ≡ all i (λ k. ltb (get_or ms k 0) 2)
+    → ltb (max most mark) 2 ≡ all j (λ k. ltb (get_or ms k 0) 2)
+most-more ms i j most mark ej em e =
+    larger-test most mark
+    ∙ ap₂ (λ (s t : Bool). s && t) e (ap (λ (x : ℕ). ltb x 2) em)
+    ∙ ap (λ (n : ℕ). all n (λ k. ltb (get_or ms k 0) 2)) (sym (ej ∙ add-one i))
 
 -- ---- by quarters
 
 abbrev pub fourth : (ℕ → Bool) → ℕ → ℕ → Bool
 fourth p q k = every (p k ∷ p (q + k) ∷ p (q + q + k) ∷ p (q + q + q + k) ∷ [])
-
--- one turn more
-pub fourth-more : (p : ℕ → Bool) (q i : ℕ) (M L H X N : Bool) → M ≡ all i (fourth p q)
-    → L ≡ every (p i ∷ p (q + i) ∷ []) → H ≡ every (p (q + q + i) ∷ p (q + q + q + i) ∷ []) → X ≡ every (L ∷ H ∷ []) → N ≡ every (M ∷ X ∷ [])
-    → N ≡ all (i + 1) (fourth p q)
-fourth-more p q i M L H X N eM eL eH eX eN =
-    eN
-    ∙ ap (λ (x : Bool). every (M ∷ x ∷ [])) (eX ∙ ap₂ (λ (l h : Bool). every (l ∷ h ∷ [])) eL eH)
-    ∙ ap (λ (x : Bool). every (x ∷ every (every (p i ∷ p (q + i) ∷ []) ∷ every (p (q + q + i) ∷ p (q + q + q + i) ∷ []) ∷ []) ∷ [])) eM
-    ∙ joined (all i (fourth p q)) (p i) (p (q + i)) (p (q + q + i)) (p (q + q + q + i))
-    ∙ ap (λ (n : ℕ). all n (fourth p q)) (sym (add-one i))
-  where
-    joined : (m a b c d : Bool) → every (m ∷ every (every (a ∷ b ∷ []) ∷ every (c ∷ d ∷ []) ∷ []) ∷ []) ≡ m && every (a ∷ b ∷ c ∷ d ∷ [])
-    joined false a b c d = refl
-    joined true false b c d = refl
-    joined true true false c d = refl
-    joined true true true false d = refl
-    joined true true true true false = refl
-    joined true true true true true = refl
 
 -- all of them
 pub fourths : (p : ℕ → Bool) (q : ℕ) → all q (fourth p q) ≡ all (4 * q) p
@@ -104,20 +76,17 @@ fourths p q = same_test (all q (fourth p q)) (all (4 * q) p)
         let e : q + q + q + (n - (q + q + q)) ≡ n = omega arith in
         subst (λ (x : ℕ). p x ≡ true) e (tests h (n - (q + q + q)) (omega arith)).1.1.1.0
 
--- the larger of two
-pub larger-b : (a b : ℕ) → a ≤ b → ltb b 2 ≡ every (ltb a 2 ∷ ltb b 2 ∷ [])
-larger-b a b h = go (ltb b 2) refl (ltb a 2) refl
-  where
-    go : (t : Bool) → ltb b 2 ≡ t → (s : Bool) → ltb a 2 ≡ s → t ≡ every (s ∷ t ∷ [])
-    go true e true f = refl
-    go true e false f = absurd (omega (arith, ltb-true b 2 e, ltb-false a 2 f))
-    go false e true f = refl
-    go false e false f = refl
+-- ---- a row that is copied
 
-pub larger-a : (a b : ℕ) → b ≤ a → ltb a 2 ≡ every (ltb a 2 ∷ ltb b 2 ∷ [])
-larger-a a b h = go (ltb a 2) refl (ltb b 2) refl
-  where
-    go : (t : Bool) → ltb a 2 ≡ t → (s : Bool) → ltb b 2 ≡ s → t ≡ every (t ∷ s ∷ [])
-    go true e true f = refl
-    go true e false f = absurd (omega (arith, ltb-true a 2 e, ltb-false b 2 f))
-    go false e s f = refl
+copied_part : (s d : List ℕ) (k : ℕ) → k ≤ length s → k ≤ length d → upto k (λ b ys. set ys b (get_or s b 0)) d ≡ take k s ++ drop k d
+copied_part s d zero hs hd = refl
+copied_part s d (suc k) hs hd =
+    let ls : k < length s = omega arith in
+    let ld : k < length d = omega arith in
+    let n : length (take k s) ≡ k = length-take-le k s (omega arith) in
+    ap (λ (ys : List ℕ). set ys k (get_or s k 0)) (copied_part s d k (omega arith) (omega arith) ∙ ap (λ (ys : List ℕ). take k s ++ ys) (drop-cons d k 0 ld))
+    ∙ set_at (take k s) (get_or d k 0) (drop (suc k) d) (get_or s k 0) k n
+    ∙ sym (ap (λ (ys : List ℕ). ys ++ drop (suc k) d) (take-suc s k 0 ls) ∙ append_assoc (take k s) (get_or s k 0 ∷ []) (drop (suc k) d))
+
+pub copied : (s d : List ℕ) → length s ≤ length d → upto (length s) (λ b ys. set ys b (get_or s b 0)) d ≡ s ++ drop (length s) d
+copied s d h = copied_part s d (length s) (omega arith) h ∙ ap (λ (ys : List ℕ). ys ++ drop (length s) d) (take_all (length s) s (omega arith))

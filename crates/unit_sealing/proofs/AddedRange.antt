@@ -1,11 +1,10 @@
 -- The ranges that a machine holds, and one that is added while a run is being made.
 use Rattle.numbers.proofs.Kit.{◌≡◌, refl, sym, ap, ap₂, ◌∙◌, subst, ◌⊎◌, inl, inr, Bool, true, false, not, cond, ◌&&◌, List, [], ◌∷◌, ◌++◌, append_assoc}
-use Rattle.numbers.proofs.Kit.{append-nil, Option, none, some, ℕ, zero, suc, ◌*◌, ◌≤◌, arith, length, eq-eqb, ne_eqb}
+use Rattle.numbers.proofs.Kit.{append-nil, Option, none, some, ℕ, zero, suc, ◌*◌, ◌≤◌, arith, length, eq-eqb, ne_eqb, Err}
 use Rattle.numbers.specs.Blocks.{Choice}
-use Rattle.machine.specs.declared.Answer.{Answer}
-use Rattle.machine.specs.declared.Answer.TheVariants.{Done, BadArguments, BadWidth, OutsideMemory, RowsOverlap, SealedByte}
+use Rattle.machine.specs.declared.Refusal.TheVariants.{BadArguments, BadWidth, OutsideMemory, RowsOverlap, SealedByte}
 use Rattle.machine.specs.declared.Reply.{Reply}
-use Rattle.machine.specs.Answers.{reply, done, is_done, Check, ◌otherwise◌, verdict}
+use Rattle.machine.specs.Answers.{reply, done, is_done, Check, ◌otherwise◌, verdict, Answer, Done}
 use Rattle.machine.specs.Geometry.{Range, range, sealed, Parameters, parameters, State, Bench, bench_of, register_at}
 use Rattle.machine.specs.Faults.{sound, seals_fit, sound_bench, thirty_two}
 use Rattle.machine.specs.Listing.{decode}
@@ -47,7 +46,7 @@ module _ (z z' : ℕ → Bool) (more : (q : ℕ) → z q ≡ true → z' q ≡ t
 
   -- the last of a list of checks
   last-check : (cs : List Check) (t t' : Bool) → (t' ≡ true → t ≡ true)
-      → let v : Bool → Answer = λ b. verdict (cs ++ ((b otherwise SealedByte) ∷ [])) in (v t' ≡ v t) ⊎ (v t' ≡ SealedByte)
+      → let v : Bool → Answer = λ b. verdict (cs ++ ((b otherwise SealedByte) ∷ [])) in (v t' ≡ v t) ⊎ (v t' ≡ (Err SealedByte))
   last-check [] true true h = inl refl
   last-check [] false true h = absurd (false-true (h refl))
   last-check [] t false h = inr refl
@@ -56,14 +55,14 @@ module _ (z z' : ℕ → Bool) (more : (q : ℕ) → z q ≡ true → z' q ≡ t
       v : Bool → Answer
       v b = verdict (cs ++ ((b otherwise SealedByte) ∷ []))
 
-      go : (b : Bool) → (v t' ≡ v t) ⊎ (v t' ≡ SealedByte)
-          → (cond b (v t') c.answer ≡ cond b (v t) c.answer) ⊎ (cond b (v t') c.answer ≡ SealedByte)
+      go : (b : Bool) → (v t' ≡ v t) ⊎ (v t' ≡ (Err SealedByte))
+          → (cond b (v t') (Err c.answer) ≡ cond b (v t) (Err c.answer)) ⊎ (cond b (v t') (Err c.answer) ≡ (Err SealedByte))
       go true r = r
       go false r = inl refl
 
   module _ (M : Parameters) (st : State) (mem : List ℕ) where
     abbrev Same : Operation → Type 0
-    Same o = (verdict (checks M z' o st mem) ≡ verdict (checks M z o st mem)) ⊎ (verdict (checks M z' o st mem) ≡ SealedByte)
+    Same o = (verdict (checks M z' o st mem) ≡ verdict (checks M z o st mem)) ⊎ (verdict (checks M z' o st mem) ≡ (Err SealedByte))
 
     -- all but a store's last are the same
     same : (o : Operation) → Same o
@@ -107,7 +106,7 @@ module _ (grant : Choice) (rs : List Range) (fit : seals_fit rs ≡ true) where
   Steps word xs B =
       let o = step_by grant word xs B in
       let o' = step_by grant word xs (holding rs B) in
-      ((o'.answer ≡ o.answer) × (o'.bench ≡ holding rs o.bench)) ⊎ ((o'.answer ≡ reply SealedByte) × (o'.bench ≡ holding rs B))
+      ((o'.answer ≡ o.answer) × (o'.bench ≡ holding rs o.bench)) ⊎ ((o'.answer ≡ reply (Err SealedByte)) × (o'.bench ≡ holding rs B))
 
   step-more : (word : ℕ) (xs : List ℕ) (B : Bench) → seals_fit B.seals ≡ true → ((q : ℕ) → sealed B.seals q ≡ true → sealed rs q ≡ true) → Steps word xs B
   unfolding step_by outcome
@@ -133,9 +132,9 @@ module _ (grant : Choice) (rs : List Range) (fit : seals_fit rs ≡ true) where
 
       -- answer 8 comes first, and is the same
       pick : Bool → Bool → Bool → Answer → Answer
-      pick s f t v = cond (s && f) (cond t v BadArguments) BadArguments
+      pick s f t v = cond (s && f) (cond t v (Err BadArguments)) (Err BadArguments)
 
-      picked : (s t : Bool) → (a' ≡ a) ⊎ (a' ≡ SealedByte) → (pick s true t a' ≡ pick s true t a) ⊎ (pick s true t a' ≡ SealedByte)
+      picked : (s t : Bool) → (a' ≡ a) ⊎ (a' ≡ (Err SealedByte)) → (pick s true t a' ≡ pick s true t a) ⊎ (pick s true t a' ≡ (Err SealedByte))
       picked true true k = k
       picked true false k = inl refl
       picked false t k = inl refl
@@ -149,7 +148,7 @@ module _ (grant : Choice) (rs : List Range) (fit : seals_fit rs ≡ true) where
       is' : told' ≡ pick S true (thirty_two xs) a'
       is' = ap (λ (f : Bool). pick S f (thirty_two xs) a') fit
 
-      answers : (told' ≡ told) ⊎ (told' ≡ SealedByte)
+      answers : (told' ≡ told) ⊎ (told' ≡ (Err SealedByte))
       answers = elim (picked S (thirty_two xs) (same (sealed B.seals) (sealed rs) more M (given_in idle M (decode word) xs B) B.memory (meant_in idle M (decode word) xs B))) [
         | inl e ↦ inl (is' ∙ e ∙ sym is)
         | inr e ↦ inr (is' ∙ e)
@@ -163,20 +162,20 @@ module _ (grant : Choice) (rs : List Range) (fit : seals_fit rs ≡ true) where
       shown v true = (refl, refl)
       shown v false = (refl, refl)
 
-      go : (told' ≡ told) ⊎ (told' ≡ SealedByte) → (((out B' told').answer ≡ (out B told).answer) × ((out B' told').bench ≡ holding rs (out B told).bench)) ⊎ (((out B' told').answer ≡ reply SealedByte) × ((out B' told').bench ≡ B'))
+      go : (told' ≡ told) ⊎ (told' ≡ (Err SealedByte)) → (((out B' told').answer ≡ (out B told).answer) × ((out B' told').bench ≡ holding rs (out B told).bench)) ⊎ (((out B' told').answer ≡ reply (Err SealedByte)) × ((out B' told').bench ≡ B'))
       go (inl e) = let k = shown told (is_done told) in inl (ap (λ (v : Answer). (out B' v).answer) e ∙ k.0, ap (λ (v : Answer). (out B' v).bench) e ∙ k.1)
       go (inr e) = inr (ap (λ (v : Answer). (out B' v).answer) e, ap (λ (v : Answer). (out B' v).bench) e)
 
   -- and so of a turn
   abbrev Turns : Running → Type 0
   Turns r = (((turn grant (under rs r)).answer ≡ (turn grant r).answer) × ((turn grant (under rs r)).after ≡ under rs (turn grant r).after))
-      ⊎ (((turn grant (under rs r)).answer ≡ reply SealedByte) × ((turn grant (under rs r)).after ≡ under rs r))
+      ⊎ (((turn grant (under rs r)).answer ≡ reply (Err SealedByte)) × ((turn grant (under rs r)).after ≡ under rs r))
 
   turn_more : (r : Running) → seals_fit r.bench.seals ≡ true → ((q : ℕ) → sealed r.bench.seals q ≡ true → sealed rs q ≡ true) → Turns r
   turn_more r fits more = go (word_handed_out grant r.run)
     where
       go : (o : Option Op) → let u = turn_with grant (under rs r) o in let v = turn_with grant r o in
-          ((u.answer ≡ v.answer) × (u.after ≡ under rs v.after)) ⊎ ((u.answer ≡ reply SealedByte) × (u.after ≡ under rs r))
+          ((u.answer ≡ v.answer) × (u.after ≡ under rs v.after)) ⊎ ((u.answer ≡ reply (Err SealedByte)) × (u.after ≡ under rs r))
       go none = inl (refl, refl)
       go (some o) =
           let h : Handed = handed_for r.run.plan o in
@@ -314,7 +313,7 @@ step-with-seals grant word xs W B = go (vectors_fit W) (is_done a)
     a = verdict (checks_in W M (decode word) xs B)
 
     go : (f t : Bool) → (cond f (beside (cond t (vectors_after M (meant_in W M (decode word) xs B) (given_in W M (decode word) xs B) W.file) W.file)
-        (cond t (carried_in W M (decode word) xs B) (refused_in W M (decode word) xs B a))) (beside W.file (refused_in W M (decode word) xs B BadArguments))).bench.seals ≡ B.seals
+        (cond t (carried_in W M (decode word) xs B) (refused_in W M (decode word) xs B a))) (beside W.file (refused_in W M (decode word) xs B (Err BadArguments)))).bench.seals ≡ B.seals
     go true true = refl
     go true false = refl
     go false t = refl

@@ -1,9 +1,8 @@
 -- A sealing by its three tests.
-use Rattle.numbers.proofs.Kit.{◌≡◌, refl, sym, ap, ◌∙◌, Bool, true, false, cond, List, [], ◌∷◌, ◌++◌, ℕ, ltb, length}
+use Rattle.numbers.proofs.Kit.{◌≡◌, refl, sym, ap, ◌∙◌, Bool, true, false, cond, List, [], ◌∷◌, ◌++◌, ℕ, ltb, length, Err}
 use Rattle.machine.specs.declared.Machine.{Machine}
-use Rattle.machine.specs.declared.Answer.{Answer}
-use Rattle.machine.specs.declared.Answer.TheVariants.{Done, BadArguments, TooManySeals}
-use Rattle.machine.specs.Answers.{reply, done, is_done}
+use Rattle.machine.specs.declared.Refusal.TheVariants.{BadArguments, TooManySeals}
+use Rattle.machine.specs.Answers.{reply, done, is_done, Answer, Done}
 use Rattle.machine.specs.Geometry.{Range, range, Bench, bench_of}
 use Rattle.machine.specs.Starting.{seal_ends, most_seals}
 use Rattle.machine.specs.Faults.{sound_bench}
@@ -20,7 +19,7 @@ module _ (start size : ℕ) (m : Machine) (block registers marks : List ℕ) whe
 
   -- the answer by the tests
   abbrev answered : Bool → Bool → Bool → Answer
-  answered s e f = cond s (cond e (cond f Done TooManySeals) BadArguments) BadArguments
+  answered s e f = cond s (cond e (cond f Done (Err TooManySeals)) (Err BadArguments)) (Err BadArguments)
 
   abbrev left : Answer → BlockSealed
   left a = record {
@@ -32,13 +31,13 @@ module _ (start size : ℕ) (m : Machine) (block registers marks : List ℕ) whe
   unfolding seal_block add_seal
   by_tests = refl
 
-  pub seal-fault : sound_bench B ≡ false → block_sealed BadArguments block ≡ seal_block start size m block registers marks
+  pub seal-fault : sound_bench B ≡ false → block_sealed (Err BadArguments) block ≡ seal_block start size m block registers marks
   seal-fault h = sym (by_tests ∙ ap (λ (s : Bool). left (answered s (seal_ends start size) few)) h)
 
-  pub seal-beyond : sound_bench B ≡ true → seal_ends start size ≡ false → block_sealed BadArguments block ≡ seal_block start size m block registers marks
+  pub seal-beyond : sound_bench B ≡ true → seal_ends start size ≡ false → block_sealed (Err BadArguments) block ≡ seal_block start size m block registers marks
   seal-beyond h e = sym (by_tests ∙ ap (λ (s : Bool). left (answered s (seal_ends start size) few)) h ∙ ap (λ (e : Bool). left (answered true e few)) e)
 
-  pub seal-ninth : sound_bench B ≡ true → seal_ends start size ≡ true → few ≡ false → block_sealed TooManySeals block ≡ seal_block start size m block registers marks
+  pub seal-ninth : sound_bench B ≡ true → seal_ends start size ≡ true → few ≡ false → block_sealed (Err TooManySeals) block ≡ seal_block start size m block registers marks
   seal-ninth h e f =
       sym (by_tests ∙ ap (λ (s : Bool). left (answered s (seal_ends start size) few)) h ∙ ap (λ (e : Bool). left (answered true e few)) e
       ∙ ap (λ (f : Bool). left (answered true true f)) f)

@@ -1,9 +1,8 @@
 -- 02, Twelve: "a range may be added between steps but never taken off": of a machine whose ranges lie in its block.
 use Rattle.numbers.specs.Kit.{cond, List, [], ℕ}
 use Rattle.machine.specs.declared.Machine.{Machine}
-use Rattle.machine.specs.declared.Answer.{Answer}
 use Rattle.machine.specs.declared.Reply.{Reply}
-use Rattle.machine.specs.Answers.{reply, done}
+use Rattle.machine.specs.Answers.{reply, done, Answer}
 use Rattle.machine.specs.Geometry.{bench_of}
 use Rattle.machine.specs.Sealing.{SealOutcome, add_seal}
 use Rattle.unit_ranges.specs.Ranges.{seals_in, put_seals}

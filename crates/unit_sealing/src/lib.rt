@@ -4,7 +4,7 @@
 ghost use Rattle.std.specs.Prelude.{◌≡◌};
 ghost use Rattle.unit_sealing.specs.SealBlock.{block_sealed, seal_block};
 
-use machine::{Answer, Machine};
+use machine::{Answer, Machine, Refusal};
 use unit_faults::is_sound;
 use unit_ranges::{add_range, count_of};
 use unit_start::seal_ends;
@@ -21,14 +21,14 @@ pub fn seal(
     ensures { block_sealed result block.new ≡ seal_block start size m block.old registers.now marks.now }
 {
     if !is_sound(m, block, registers, marks) {
-        return Answer::BadArguments;
+        return Err(Refusal::BadArguments);
     }
     if !seal_ends(start, size) {
-        return Answer::BadArguments;
+        return Err(Refusal::BadArguments);
     }
     if count_of(block) >= 8 {
-        return Answer::TooManySeals;
+        return Err(Refusal::TooManySeals);
     }
     add_range(block, start, size);
-    Answer::Done
+    Ok(())
 }

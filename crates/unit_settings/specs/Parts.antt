@@ -1,10 +1,12 @@
 -- What the functions of settings and faults give, each in the words of the definitions.
+use Rattle.numbers.specs.Kit.{Err}
 use Rattle.std.specs.Prelude.{◌≡◌, Bool, true, cond, List, [], ◌∷◌, ℕ, ◌/◌, min, leb, eqb}
 use Rattle.machine.specs.declared.Machine.{Machine}
 use Rattle.machine.specs.declared.Dimension.{Dimension}
 use Rattle.machine.specs.declared.Dimension.TheVariants.{DimensionM, DimensionK, DimensionN}
-use Rattle.machine.specs.declared.Answer.TheVariants.{Done, IllegalType}
-use Rattle.machine.specs.declared.Stepped.{Stepped}
+use Rattle.machine.specs.declared.Refusal.TheVariants.{IllegalType}
+use Rattle.machine.specs.Answers.{Done}
+use Rattle.machine.specs.Step.{Stepped}
 use Rattle.machine.specs.Tests.{every}
 use Rattle.machine.specs.Geometry.{permitted, parameters, Parameters, state_of, machine_after, scalar, with_scalar}
 use Rattle.machine.specs.Starting.{is_rule}
@@ -39,7 +41,7 @@ abbrev pub granted : Machine → Dimension → ℕ → ℕ
 granted m d a = chosen m.rule (maximum (ours m) m.mtype d) a
 
 abbrev pub size_stepped : Machine → Dimension → ℕ → Stepped
-size_stepped m d a = cond (mill m.mtype) (record { answer = IllegalType; machine = m }) (record { answer = Done; machine = with_size m d (granted m d a) })
+size_stepped m d a = cond (mill m.mtype) (record { answer = Err IllegalType; machine = m }) (record { answer = Done; machine = with_size m d (granted m d a) })
 
 abbrev pub size_scalars : Machine → Dimension → ℕ → ℕ → List ℕ → List ℕ
 size_scalars m d a rd xs = cond (mill m.mtype) xs (with_scalar xs rd (granted m d a))
@@ -47,7 +49,7 @@ size_scalars m d a rd xs = cond (mill m.mtype) xs (with_scalar xs rd (granted m 
 -- and one that asks for none
 abbrev pub cut_stepped : Machine → Dimension → Stepped
 cut_stepped m d =
-    cond (mill m.mtype) (record { answer = IllegalType; machine = m }) (record {
+    cond (mill m.mtype) (record { answer = Err IllegalType; machine = m }) (record {
       answer = Done;
       machine = with_size m d (smaller (maximum (ours m) m.mtype d) (size_in d (state_of m [] [])));
     })

@@ -5,11 +5,11 @@ ghost use Rattle.std.specs.Prelude.{◌≡◌, true, false, [], ◌<◌, ◌≤�
 ghost use Rattle.machine.specs.Geometry.{elens, with_scalar, state_of};
 ghost use Rattle.machine.specs.Setting.{new_type, mill, maximum, sew, size_in};
 ghost use Rattle.machine.specs.Refusals.{fitting};
+ghost use Rattle.machine.specs.Step.{stepped};
 ghost use Rattle.unit_settings.specs.Parts.{ours, with_type, with_size, size_stepped, size_scalars, cut_stepped, tile_stepped, tile_scalars, Ready, legal_types};
 ghost use Rattle.machine.specs.Tests.{is_in};
 
-use machine::{Answer, Dimension, Machine, Stepped};
-use numbers::smaller;
+use machine::{Dimension, Machine, Refusal};
 use unit_scalars::{read_scalar, write_scalar};
 use unit_start::chosen;
 
@@ -72,7 +72,7 @@ fn largest(m: Machine, dimension: Dimension) -> u64
     let columns = m.rlen / 8 / (sew_bytes(m.mtype) as u64);
     match dimension {
         Dimension::DimensionM => rows,
-        Dimension::DimensionK => smaller(rows, columns),
+        Dimension::DimensionK => rows.min(columns),
         Dimension::DimensionN => columns,
     }
 }
@@ -154,56 +154,46 @@ pub fn set_size(
     dimension: Dimension,
     rd: usize,
     asked: u64,
-) -> Stepped
+) -> Result<Machine, Refusal>
     requires ready { Ready m }
     requires rd_in_bounds { rd < length scalars.old }
-    ensures value { result ≡ size_stepped m dimension asked }
+    ensures value { stepped m result ≡ size_stepped m dimension asked }
     ensures scalars_after { scalars.new ≡ size_scalars m dimension asked rd scalars.old }
 {
     if is_mill(m.mtype) {
-        return Stepped {
-            answer: Answer::IllegalType,
-            machine: m,
-        };
+        return Err(Refusal::IllegalType);
     }
     let size = chosen(m.rule, largest(m, dimension), asked);
     write_scalar(scalars, rd, size);
-    Stepped {
-        answer: Answer::Done,
-        machine: with_size(m, dimension, size),
-    }
+    Ok(with_size(m, dimension, size))
 }
 
 // Nothing is asked: the size is cut to the largest.
-fn cut_size(m: Machine, dimension: Dimension) -> Stepped
+fn cut_size(m: Machine, dimension: Dimension) -> Result<Machine, Refusal>
     requires { Ready m }
-    ensures { result ≡ cut_stepped m dimension }
+    ensures { stepped m result ≡ cut_stepped m dimension }
 {
     if is_mill(m.mtype) {
-        return Stepped {
-            answer: Answer::IllegalType,
-            machine: m,
-        };
+        return Err(Refusal::IllegalType);
     }
-    let size = smaller(size_of(m, dimension), largest(m, dimension));
-    Stepped {
-        answer: Answer::Done,
-        machine: with_size(m, dimension, size),
-    }
+    let size = size_of(m, dimension).min(largest(m, dimension));
+    Ok(with_size(m, dimension, size))
 }
 
 // The largest size is asked.
-fn set_largest(m: Machine, scalars: &mut [u64], dimension: Dimension, rd: usize) -> Stepped
+fn set_largest(
+    m: Machine,
+    scalars: &mut [u64],
+    dimension: Dimension,
+    rd: usize,
+) -> Result<Machine, Refusal>
     requires ready { Ready m }
     requires rd_in_bounds { rd < length scalars.old }
-    ensures value { result ≡ size_stepped m dimension (maximum (ours m) m.mtype dimension) }
+    ensures value { stepped m result ≡ size_stepped m dimension (maximum (ours m) m.mtype dimension) }
     ensures scalars_after { scalars.new ≡ size_scalars m dimension (maximum (ours m) m.mtype dimension) rd scalars.old }
 {
     if is_mill(m.mtype) {
-        return Stepped {
-            answer: Answer::IllegalType,
-            machine: m,
-        };
+        return Err(Refusal::IllegalType);
     }
     let size = largest(m, dimension);
     set_size(m, scalars, dimension, rd, size)
@@ -216,10 +206,10 @@ pub fn set_tile(
     dimension: Dimension,
     rd: usize,
     rs1: usize,
-) -> Stepped
+) -> Result<Machine, Refusal>
     requires ready { Ready m }
     requires rd_in_bounds { (rd < length scalars.old) × (rs1 < length scalars.old) }
-    ensures value { result ≡ tile_stepped m dimension rd rs1 scalars.old }
+    ensures value { stepped m result ≡ tile_stepped m dimension rd rs1 scalars.old }
     ensures scalars_after { scalars.new ≡ tile_scalars m dimension rd rs1 scalars.old }
 {
     if rs1 != 0 {

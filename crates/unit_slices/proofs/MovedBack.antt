@@ -15,8 +15,7 @@ use Rattle.machine.specs.Setting.{sew}
 use Rattle.machine.specs.Operation.{Operation, placed, element, memory_rows, memory_cols}
 use Rattle.machine.specs.MoveWords.{line_of, slice_at, slice_rows, slice_cols}
 use Rattle.machine.specs.Meanings.{state_after, memory_after, vectors_after, result_of, checks}
-use Rattle.machine.specs.Answers.{reply}
-use Rattle.machine.specs.declared.Answer.TheVariants.{Done}
+use Rattle.machine.specs.Answers.{reply, Done}
 use Rattle.machine.specs.Step
 use Rattle.machine.specs.Step.{VectorOutcome, beside, step_with}
 use Rattle.machine.specs.Theorems.{Given}

@@ -1,7 +1,7 @@
 -- Answer 8 of a step, and its word.
-use Rattle.numbers.proofs.Kit.{◌≡◌, refl, sym, ap, ◌∙◌, Bool, true, false, cond, List, ℕ, length, eq-eqb, ne_eqb}
+use Rattle.numbers.proofs.Kit.{◌≡◌, refl, sym, ap, ◌∙◌, Bool, true, false, cond, List, ℕ, length, eq-eqb, ne_eqb, Err}
 use Rattle.machine.specs.declared.Instruction.{Instruction}
-use Rattle.machine.specs.declared.Answer.TheVariants.{BadArguments}
+use Rattle.machine.specs.declared.Refusal.TheVariants.{BadArguments}
 use Rattle.machine.specs.Tests.{is_in}
 use Rattle.machine.specs.Answers.{reply}
 use Rattle.machine.specs.Geometry.{Bench}
@@ -31,7 +31,7 @@ module _ (file : List ℕ) (group : ℕ) where
 
 module _ (word : ℕ) (xs : List ℕ) (W : Vectors) (B : Bench) where
   abbrev refused : VectorOutcome
-  refused = beside W.file (record { answer = reply BadArguments; bench = B; scalars = xs })
+  refused = beside W.file (record { answer = reply (Err BadArguments); bench = B; scalars = xs })
 
   abbrev by : Bool → VectorOutcome
   by t = cond t (carried_beside W (ours B.machine) (decode word) xs B) refused

@@ -3,11 +3,9 @@ use Rattle.numbers.proofs.Kit.{◌≡◌, refl, sym, ap, ap₂, ◌∙◌, Bool,
 use Rattle.machine.specs.declared.Machine.{Machine}
 use Rattle.machine.specs.declared.Form.{Form}
 use Rattle.machine.specs.declared.Wrong.TheVariants.{Register}
-use Rattle.machine.specs.declared.Answer.{Answer}
-use Rattle.machine.specs.declared.Answer.TheVariants.{Done}
 use Rattle.machine.specs.declared.Instruction.{Instruction}
 use Rattle.machine.specs.declared.Instruction.TheVariants.{Illegal, SetTypeImmediate, SetType, SetTileImmediate, SetTile, Load, Store, Multiply, Combine, Scale, ScaleImmediate, FloatMultiply, MoveOut, MoveIn}
-use Rattle.machine.specs.Answers.{Check, reply, verdict, is_done}
+use Rattle.machine.specs.Answers.{Check, reply, verdict, is_done, Answer, Done}
 use Rattle.machine.specs.Geometry.{Range, sealed, Parameters, State, state_of, machine_after, Bench, bench_of, with_scalar}
 use Rattle.machine.specs.Vectors.{Vectors, aligned}
 use Rattle.machine.specs.Operation.{Operation}

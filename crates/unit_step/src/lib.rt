@@ -9,13 +9,13 @@ ghost use Rattle.unit_ranges.specs.Ranges.{seals_in};
 ghost use Rattle.machine.specs.Geometry.{bench_of};
 ghost use Rattle.machine.specs.Tests.{is_in};
 ghost use Rattle.machine.specs.Vectors.{vectors_of, group_sizes, vectors_fit};
-ghost use Rattle.machine.specs.Step.{vector_step, vector_stepped_as};
+ghost use Rattle.machine.specs.Step.{stepped, vector_step, vector_stepped_as};
 ghost use Rattle.machine.specs.Refusals.{word_answer};
 ghost use Rattle.machine.specs.ArithmeticWords.{is_zero};
 ghost use Rattle.unit_settings.specs.Parts.{ours};
 ghost use Rattle.unit_step.specs.Parts.{Multiplier, Decoded, carried_beside};
 
-use machine::{Answer, Instruction, Machine, Stepped, Wrong};
+use machine::{Answer, Instruction, Machine, Refusal, Wrong};
 use unit_execute::reckoning::{combine, float_multiply, multiply, scale};
 use unit_execute::transfers::{load, store};
 use unit_faults::is_sound;
@@ -23,15 +23,15 @@ use unit_moves::move_slice;
 use unit_scalars::read_scalar;
 use unit_settings::{set_size, set_tile, set_type};
 
-// The answer to a word that is refused for what it is.
-fn word_answer(wrong: Wrong) -> Answer
+// What a word is refused for that is refused for what it is.
+fn word_answer(wrong: Wrong) -> Refusal
     ensures { result ≡ word_answer wrong }
 {
     match wrong {
-        Wrong::Opcode => Answer::WrongOpcode,
-        Wrong::LeftOut => Answer::LeftOutWord,
-        Wrong::Unlisted => Answer::IllegalWord,
-        Wrong::Register => Answer::WrongRegister,
+        Wrong::Opcode => Refusal::WrongOpcode,
+        Wrong::LeftOut => Refusal::LeftOutWord,
+        Wrong::Unlisted => Refusal::IllegalWord,
+        Wrong::Register => Refusal::WrongRegister,
     }
 }
 
@@ -64,6 +64,14 @@ fn multiplier(mtype: u64, value: u64) -> u64
     value
 }
 
+// The machine m as it is, where the answer is that it is done.
+fn leaving(m: Machine, answer: Answer) -> Result<Machine, Refusal>
+    ensures { stepped m result ≡ (record { answer = answer; machine = m }) }
+{
+    answer?;
+    Ok(m)
+}
+
 // Carries out an instruction in a state that is not at fault.
 fn perform(
     m: Machine,
@@ -75,30 +83,23 @@ fn perform(
     vectors: &mut [u8],
     group: u64,
     instruction: Instruction,
-) -> Stepped
+) -> Result<Machine, Refusal>
     requires marks_value { sound m registers.old marks.old ≡ true }
     requires scalars_value { thirty_two scalars.old ≡ true }
     requires group_value { vectors_fit (vectors_of vectors.old group) ≡ true }
     requires decoded { Decoded instruction }
     requires seals_value { seals_fit (seals_in seals.now) ≡ true }
-    ensures { vector_stepped_as result (seals_in seals.now) registers.new marks.new scalars.new memory.new vectors.new
+    ensures { vector_stepped_as (stepped m result) (seals_in seals.now) registers.new marks.new scalars.new memory.new vectors.new
         ≡ carried_beside (vectors_of vectors.old group) (ours m) instruction scalars.old (bench_of m (seals_in seals.now) registers.old marks.old memory.old) }
 {
     match instruction {
-        Instruction::Illegal { wrong } => Stepped {
-            answer: word_answer(wrong),
-            machine: m,
-        },
-        Instruction::SetTypeImmediate { rd, immediate } => Stepped {
-            answer: Answer::Done,
-            machine: set_type(m, scalars, rd, immediate),
-        },
+        Instruction::Illegal { wrong } => Err(word_answer(wrong)),
+        Instruction::SetTypeImmediate { rd, immediate } => {
+            Ok(set_type(m, scalars, rd, immediate))
+        }
         Instruction::SetType { rd, rs1 } => {
             let value = read_scalar(scalars, rs1);
-            Stepped {
-                answer: Answer::Done,
-                machine: set_type(m, scalars, rd, value),
-            }
+            Ok(set_type(m, scalars, rd, value))
         }
         Instruction::SetTileImmediate {
             dimension,
@@ -116,12 +117,12 @@ fn perform(
         } => {
             let base = read_scalar(scalars, rs1);
             let stride = read_scalar(scalars, rs2);
-            Stepped {
-                answer: load(
+            leaving(
+                m,
+                load(
                     m, registers, marks, memory, form, matrix, width, md, base, stride,
                 ),
-                machine: m,
-            }
+            )
         }
         Instruction::Store {
             form,
@@ -133,31 +134,25 @@ fn perform(
         } => {
             let base = read_scalar(scalars, rs1);
             let stride = read_scalar(scalars, rs2);
-            Stepped {
-                answer: store(
+            leaving(
+                m,
+                store(
                     m, seals, registers, marks, memory, form, matrix, width, ms3, base, stride,
                 ),
-                machine: m,
-            }
+            )
         }
         Instruction::Multiply {
             factor,
             md,
             ms1,
             ms2,
-        } => Stepped {
-            answer: multiply(m, registers, marks, factor, md, ms1, ms2),
-            machine: m,
-        },
+        } => leaving(m, multiply(m, registers, marks, factor, md, ms1, ms2)),
         Instruction::Combine {
             sum,
             factor,
             md,
             ms1,
-        } => Stepped {
-            answer: combine(m, registers, marks, sum, factor, md, ms1),
-            machine: m,
-        },
+        } => leaving(m, combine(m, registers, marks, sum, factor, md, ms1)),
         Instruction::Scale {
             factor,
             md,
@@ -165,10 +160,7 @@ fn perform(
             rs2,
         } => {
             let by = multiplier(m.mtype, read_scalar(scalars, rs2));
-            Stepped {
-                answer: scale(m, registers, marks, factor, md, ms1, by),
-                machine: m,
-            }
+            leaving(m, scale(m, registers, marks, factor, md, ms1, by))
         }
         Instruction::ScaleImmediate {
             factor,
@@ -177,32 +169,29 @@ fn perform(
             immediate,
         } => {
             let by = sign_extend(immediate, 16);
-            Stepped {
-                answer: scale(m, registers, marks, factor, md, ms1, by),
-                machine: m,
-            }
+            leaving(m, scale(m, registers, marks, factor, md, ms1, by))
         }
-        Instruction::FloatMultiply { md, ms1, ms2 } => Stepped {
-            answer: float_multiply(m, registers, marks, md, ms1, ms2),
-            machine: m,
-        },
+        Instruction::FloatMultiply { md, ms1, ms2 } => leaving(
+            m,
+            float_multiply(m, registers, marks, md, ms1, ms2),
+        ),
         Instruction::MoveOut { form, vd, ms1, rs2 } => {
             let first = read_scalar(scalars, rs2);
-            Stepped {
-                answer: move_slice(
+            leaving(
+                m,
+                move_slice(
                     m, registers, marks, vectors, group, false, form, ms1, vd, first,
                 ),
-                machine: m,
-            }
+            )
         }
         Instruction::MoveIn { form, md, vs1, rs2 } => {
             let first = read_scalar(scalars, rs2);
-            Stepped {
-                answer: move_slice(
+            leaving(
+                m,
+                move_slice(
                     m, registers, marks, vectors, group, true, form, md, vs1, first,
                 ),
-                machine: m,
-            }
+            )
         }
     }
 }
@@ -231,33 +220,21 @@ pub fn step(
     vectors: &mut [u8],
     group: u64,
     word: u32,
-) -> Stepped
-    ensures { vector_stepped_as result (seals_in seals.now) registers.new marks.new scalars.new memory.new vectors.new
+) -> Result<Machine, Refusal>
+    ensures { vector_stepped_as (stepped m result) (seals_in seals.now) registers.new marks.new scalars.new memory.new vectors.new
         ≡ vector_step word scalars.old (vectors_of vectors.old group) (bench_of m (seals_in seals.now) registers.old marks.old memory.old) }
 {
     if vectors.len() != 512 {
-        return Stepped {
-            answer: Answer::BadArguments,
-            machine: m,
-        };
+        return Err(Refusal::BadArguments);
     }
     if !is_group(group) {
-        return Stepped {
-            answer: Answer::BadArguments,
-            machine: m,
-        };
+        return Err(Refusal::BadArguments);
     }
     if !is_sound(m, seals, registers, marks) {
-        return Stepped {
-            answer: Answer::BadArguments,
-            machine: m,
-        };
+        return Err(Refusal::BadArguments);
     }
     if scalars.len() != 32 {
-        return Stepped {
-            answer: Answer::BadArguments,
-            machine: m,
-        };
+        return Err(Refusal::BadArguments);
     }
     perform(
         m,

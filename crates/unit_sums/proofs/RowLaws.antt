@@ -1,13 +1,13 @@
 -- Sums of products kept at a width, once over the width: one product more, and the rows that are stored.
 use Rattle.numbers.proofs.Kit.{◌≡◌, refl, sym, ap, ap₂, ◌∙◌, List, ℕ, ◌+◌, ◌*◌, ◌%◌, ◌^◌, ◌≤◌, ◌<◌, add_comm, zero-add, one-mul, mod-eq_of_lt}
-use Rattle.numbers.proofs.Kit.{pow-le-pow_right, arith, get_or, replicate, get_or-replicate, ℤ, ◌+ℤ◌, ◌*ℤ◌}
+use Rattle.numbers.proofs.Kit.{pow-le-pow_right, arith, get_or, ℤ, ◌+ℤ◌, ◌*ℤ◌}
 use Rattle.numbers.specs.Reduce.{signed, reduce, sumℤ}
 use Rattle.numbers.specs.Tile.{get_le, put_row}
 use Rattle.numbers.proofs.TileLaws.{le-lt}
 use Rattle.numbers.proofs.PutLaws.{put_row-low}
 use Rattle.numbers.proofs.ElementLaws.{pow-256, signed-widened, cut, put_row-cong}
 use Rattle.numbers.proofs.ReduceLaws.{reduce-add, reduce-mul, reduce-lt, reduce-signed, sumℤ-cong}
-use Rattle.numbers.proofs.SumLaws.{wrapping_add, mac-is, sum-none, sum_more, product-more, same_sum, two_products}
+use Rattle.numbers.proofs.SumLaws.{wrapping_add, sum-none, sum_more, product-more, same_sum, two_products}
 use Rattle.machine.specs.ArithmeticWords.{product}
 use Rattle.unit_sums.specs.Rows.{signed_le, plus_product, residue_at, plus_times, product_row, weighted_row}
 
@@ -25,20 +25,13 @@ module _ (m : ℕ) (0<m : 0 < m) where
       ∙ turned z (signed m v)
 
 module _ (W : ℕ) (s : List ℕ) where
-  -- a wrapping product z of x and the element y at p, added by a wrapping add
-  pub mac-turn : (w p at r v v' z x y : ℕ) → r ≡ (v' + z) % 256 ^ W → z ≡ reduce (256 ^ W) (signed (256 ^ W) x *ℤ signed (256 ^ W) y)
-      → y ≡ reduce (256 ^ W) (signed_le s at w) → at ≡ p → v' ≡ v → v < 256 ^ W → r ≡ plus_product W v x s p w
-  mac-turn w p at r v v' z x y er ez ey ea ev h =
-      mac-is (256 ^ W) (pow-256 W) r v v' z x y (signed_le s p w) er ez (ey ∙ ap (λ (q : ℕ). reduce (256 ^ W) (signed_le s q w)) ea) ev h
-
-  -- product l of column j, of A's element x at `from` and B's row at `row`
-  pub product-added : (w pitch a b j l old v x from row r : ℕ)
+  -- product l of column j, of A's element x
+  pub product-added : (w pitch a b j l old v x r : ℕ)
       → v ≡ product W w l old (λ t. get_le s (a + t * w) w) (λ t. get_le s (b + t * pitch + j * w) w)
-      → x ≡ reduce (256 ^ W) (signed_le s from w) → from ≡ a + l * w → row ≡ b + l * pitch → r ≡ plus_product W v x s (row + j * w) w
+      → x ≡ residue_at W s (a + l * w) w → r ≡ plus_product W v x s (b + l * pitch + j * w) w
       → r ≡ product W w (l + 1) old (λ t. get_le s (a + t * w) w) (λ t. get_le s (b + t * pitch + j * w) w)
-  product-added w pitch a b j l old v x from row r ev ex ef eb er =
-      er ∙ ap (λ (q : ℕ). plus_product W v x s (q + j * w) w) eb
-      ∙ product-more (256 ^ W) (pow-256 W) (signed (256 ^ W) old) (A l) (B l) l (λ t. A t *ℤ B t) v x ev (ex ∙ ap (λ (q : ℕ). reduce (256 ^ W) (signed_le s q w)) ef) refl
+  product-added w pitch a b j l old v x r ev ex er =
+      er ∙ product-more (256 ^ W) (pow-256 W) (signed (256 ^ W) old) (A l) (B l) l (λ t. A t *ℤ B t) v x ev ex refl
     where
       A : ℕ → ℤ
       A t = signed_le s (a + t * w) w
@@ -47,23 +40,22 @@ module _ (W : ℕ) (s : List ℕ) where
       B t = signed_le s (b + t * pitch + j * w) w
 
   -- accumulators that start at 0: all products, and the old elements once, stored
-  pub row-of-products : (w pitch k a b c n size : ℕ) (sums out : List ℕ) → 1 < 256 ^ W → ((q : ℕ) → get_or s q 0 < 256) → ((j : ℕ) → j < n → j < size)
-      → ((j : ℕ) → j < n → get_or sums j 0 ≡ product W w k (get_or (replicate size 0) j 0) (λ l. get_le s (a + l * w) w) (λ l. get_le s (b + l * pitch + j * w) w))
-      → out ≡ put_row c n W (λ j. plus_product W (get_or sums j 0) 1 s (c + j * W) W) s → out ≡ put_row c n W (product_row s W w pitch k a b c) s
-  row-of-products w pitch k a b c n size sums out big bytes room es e =
-      e ∙ put_row-cong W c n (λ j. plus_product W (get_or sums j 0) 1 s (c + j * W) W) (product_row s W w pitch k a b c) s
-      (λ j h. ap (λ (v : ℕ). plus_product W v 1 s (c + j * W) W)
-      (es j h ∙ ap (λ (o : ℕ). product W w k o (λ l. get_le s (a + l * w) w) (λ l. get_le s (b + l * pitch + j * w) w)) (get_or-replicate size j 0 0 (room j h)))
+  pub row-of-products : (w pitch k a b c n one : ℕ) (sums out : List ℕ) → 1 < 256 ^ W → ((q : ℕ) → get_or s q 0 < 256) → one ≡ 1
+      → ((j : ℕ) → j < n → get_or sums j 0 ≡ product W w k 0 (λ l. get_le s (a + l * w) w) (λ l. get_le s (b + l * pitch + j * w) w))
+      → out ≡ put_row c n W (λ j. plus_product W (get_or sums j 0) one s (c + j * W) W) s → out ≡ put_row c n W (product_row s W w pitch k a b c) s
+  row-of-products w pitch k a b c n one sums out big bytes eo es e =
+      e ∙ put_row-cong W c n (λ j. plus_product W (get_or sums j 0) one s (c + j * W) W) (product_row s W w pitch k a b c) s
+      (λ j h. ap₂ (λ (v o : ℕ). plus_product W v o s (c + j * W) W) (es j h) eo
       ∙ once_last (256 ^ W) (pow-256 W) big (sumℤ k (λ l. signed_le s (a + l * w) w *ℤ signed_le s (b + l * pitch + j * w) w)) (get_le s (c + j * W) W) (le-lt s bytes (c + j * W) W))
 
   -- and two products, stored
-  pub row-of-weights : (w from to n size x y : ℕ) (one out : List ℕ) → ((j : ℕ) → j < n → j < size)
-      → ((j : ℕ) → j < n → get_or one j 0 ≡ plus_product W (get_or (replicate size 0) j 0) y s (from + j * w) w)
+  pub row-of-weights : (w from to n x y : ℕ) (none one out : List ℕ) → ((j : ℕ) → get_or none j 0 ≡ 0)
+      → ((j : ℕ) → j < n → get_or one j 0 ≡ plus_product W (get_or none j 0) y s (from + j * w) w)
       → out ≡ put_row to n W (λ j. plus_product W (get_or one j 0) x s (to + j * W) W) s → out ≡ put_row to n W (weighted_row s from to w W x y) s
-  row-of-weights w from to n size x y one out room e1 e =
+  row-of-weights w from to n x y none one out zero e1 e =
       e ∙ put_row-cong W to n (λ j. plus_product W (get_or one j 0) x s (to + j * W) W) (weighted_row s from to w W x y) s
       (λ j h. ap (λ (v : ℕ). plus_product W v x s (to + j * W) W)
-      (e1 j h ∙ ap (λ (v : ℕ). plus_product W v y s (from + j * w) w) (get_or-replicate size j 0 0 (room j h)))
+      (e1 j h ∙ ap (λ (v : ℕ). plus_product W v y s (from + j * w) w) (zero j))
       ∙ two_products (256 ^ W) (pow-256 W) (signed (256 ^ W) y *ℤ signed_le s (from + j * w) w) (signed (256 ^ W) x *ℤ signed_le s (to + j * W) W)
       ∙ turned (256 ^ W) (pow-256 W) (signed (256 ^ W) y *ℤ signed_le s (from + j * w) w) (signed (256 ^ W) x *ℤ signed_le s (to + j * W) W))
 

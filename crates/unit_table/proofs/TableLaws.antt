@@ -294,10 +294,7 @@ table-decodes word o =
     go true = refl
     go false = no_number word
 
--- ---- for code: a block of the table, and the entries that fix bits 24..20
-
-pub entry-is : (high k middle form : ℕ) → high ≡ k → get_or (get_or (get_or numbers k []) middle []) form 0 ≡ get_or (get_or (get_or numbers high []) middle []) form 0
-entry-is high k middle form e = ap (λ (h : ℕ). get_or (get_or (get_or numbers h []) middle []) form 0) (sym e)
+-- ---- for code: a match on numbers, and the entries that fix bits 24..20
 
 -- what a match on a, a + 1, .. says where none is met
 abbrev pub Above : ℕ → ℕ → ℕ → Type 0

@@ -2,6 +2,7 @@
 // that an entry for each value of bits 14..12, from 000 to 111: the number of the entry of section 4.5 that has these bits (with 100
 // added for a transposed load or store, whose numbers are printed twice), or of a move of section 6.1.7 (with 200 added), or 0. A
 // setting with an immediate has data in bits 27..25, so it fills the last column of its block.
+// An entry is a number and no variant of an enum: it is the listing's own, which the definition `numbers` and its theorem name.
 #![tactic(auto)]
 
 ghost use Rattle.std.specs.Prelude.{◌≡◌, ◌<◌, get_or, []};
@@ -104,21 +105,12 @@ const CODES_0111: [[u8; 8]; 8] = [
 ];
 
 // No entry.
-const CODES_1000: [[u8; 8]; 8] = [[0; 8]; 8];
+const CODES_NONE: [[u8; 8]; 8] = [[0; 8]; 8];
 
-const CODES_1001: [[u8; 8]; 8] = [[0; 8]; 8];
-
-const CODES_1010: [[u8; 8]; 8] = [[0; 8]; 8];
-
-const CODES_1011: [[u8; 8]; 8] = [[0; 8]; 8];
-
-const CODES_1100: [[u8; 8]; 8] = [[0; 8]; 8];
-
-const CODES_1101: [[u8; 8]; 8] = [[0; 8]; 8];
-
-const CODES_1110: [[u8; 8]; 8] = [[0; 8]; 8];
-
-const CODES_1111: [[u8; 8]; 8] = [[0; 8]; 8];
+static CODES: [[[u8; 8]; 8]; 16] = [
+    CODES_0000, CODES_0001, CODES_0010, CODES_0011, CODES_0100, CODES_0101, CODES_0110, CODES_0111,
+    CODES_NONE, CODES_NONE, CODES_NONE, CODES_NONE, CODES_NONE, CODES_NONE, CODES_NONE, CODES_NONE,
+];
 
 // The entry of a word with these bits 31..28, 27..25 and 14..12.
 pub fn entry(high: u32, middle: usize, form: usize) -> u8
@@ -127,49 +119,5 @@ pub fn entry(high: u32, middle: usize, form: usize) -> u8
     requires form_bound { form < 8 }
     ensures { result ≡ get_or (get_or (get_or numbers high []) middle []) form 0 }
 {
-    match high {
-        0b0000 => CODES_0000[middle][form],
-        0b0001 => CODES_0001[middle][form],
-        0b0010 => CODES_0010[middle][form],
-        0b0011 => CODES_0011[middle][form],
-        0b0100 => CODES_0100[middle][form],
-        0b0101 => CODES_0101[middle][form],
-        0b0110 => CODES_0110[middle][form],
-        0b0111 => CODES_0111[middle][form],
-        0b1000 => CODES_1000[middle][form],
-        0b1001 => CODES_1001[middle][form],
-        0b1010 => CODES_1010[middle][form],
-        0b1011 => CODES_1011[middle][form],
-        0b1100 => CODES_1100[middle][form],
-        0b1101 => CODES_1101[middle][form],
-        0b1110 => CODES_1110[middle][form],
-        _ => CODES_1111[middle][form],
-    }
-}
-
-// The same, for lines of text: a function that has two callers is not compiled into a step.
-pub fn entry_for_text(high: u32, middle: usize, form: usize) -> u8
-    requires high_bound { high < 16 }
-    requires middle_bound { middle < 8 }
-    requires form_bound { form < 8 }
-    ensures { result ≡ get_or (get_or (get_or numbers high []) middle []) form 0 }
-{
-    match high {
-        0b0000 => CODES_0000[middle][form],
-        0b0001 => CODES_0001[middle][form],
-        0b0010 => CODES_0010[middle][form],
-        0b0011 => CODES_0011[middle][form],
-        0b0100 => CODES_0100[middle][form],
-        0b0101 => CODES_0101[middle][form],
-        0b0110 => CODES_0110[middle][form],
-        0b0111 => CODES_0111[middle][form],
-        0b1000 => CODES_1000[middle][form],
-        0b1001 => CODES_1001[middle][form],
-        0b1010 => CODES_1010[middle][form],
-        0b1011 => CODES_1011[middle][form],
-        0b1100 => CODES_1100[middle][form],
-        0b1101 => CODES_1101[middle][form],
-        0b1110 => CODES_1110[middle][form],
-        _ => CODES_1111[middle][form],
-    }
+    CODES[high as usize][middle][form]
 }

@@ -1,10 +1,10 @@
 -- The marks of a tile by rows and elements.
-use Rattle.numbers.proofs.Kit.{◌≡◌, sym, ap, ◌∙◌, subst, Bool, true, false, List, [], ◌∷◌, ℕ, ◌+◌, ◌*◌, ◌<◌, arith, eqb, get_or, set}
+use Rattle.numbers.proofs.Kit.{◌≡◌, sym, ap, ◌∙◌, subst, Bool, true, false, List, [], ◌∷◌, ℕ, ◌+◌, ◌*◌, ◌<◌, arith, eqb, get_or, set, Err}
 use Rattle.numbers.specs.Tile.{mark_row, mark_tile}
 use Rattle.numbers.proofs.PutLaws.{upto-elements}
-use Rattle.machine.specs.declared.Answer.TheVariants.{Done, Unwritten}
+use Rattle.machine.specs.declared.Refusal.TheVariants.{Unwritten}
 use Rattle.machine.specs.Tests.{all}
-use Rattle.machine.specs.Answers.{verdict}
+use Rattle.machine.specs.Answers.{verdict, Done}
 use Rattle.machine.specs.Refusals.{marked, needs}
 use Rattle.machine.proofs.TestLaws.{all-at, all-false, all_true, all-elements, same_test}
 use Rattle.unit_address.proofs.TestLaws.{first-here}
@@ -41,7 +41,7 @@ module _ (ms : List ℕ) (at : ℕ → ℕ) (rows cols w : ℕ) where
 
   -- the first element without a mark
   pub tile-unmarked : (i j : ℕ) → i < rows → j < cols → all i (row_marked ms at (cols * w)) ≡ true
-      → all j (element_marked ms (at i) w) ≡ true → element_marked ms (at i) w j ≡ false → Unwritten i j ≡ verdict (needs false ms at rows cols w ∷ [])
+      → all j (element_marked ms (at i) w) ≡ true → element_marked ms (at i) w j ≡ false → Err (Unwritten i j) ≡ verdict (needs false ms at rows cols w ∷ [])
   unfolding marked
   tile-unmarked i j l k h h' g' =
       let g = row-unmarked i j k g' in

@@ -1,11 +1,11 @@
 -- What `load` and `store` require follows from a sound machine and the checks of answers 2 to 4.
-use Rattle.numbers.proofs.Kit.{◌≡◌, refl, sym, ap, ◌∙◌, Bool, true, false, ◌&&◌, ◌||◌, List, [], ◌∷◌, ℕ, zero, suc, ◌+◌, ◌*◌, ◌/◌, ◌%◌, ◌^◌, ◌≤◌, ◌<◌}
+use Rattle.numbers.proofs.Kit.{◌≡◌, refl, sym, ap, ◌∙◌, Bool, true, false, ◌&&◌, ◌||◌, List, [], ◌∷◌, ℕ, zero, suc, ◌+◌, ◌*◌, ◌/◌, ◌≤◌, ◌<◌}
 use Rattle.numbers.proofs.Kit.{mul-le-mul_right, div-mul-le_self, arith, eqb, leb, length, eqb-true, leb-true}
 use Rattle.numbers.specs.Blocks.{Choice}
 use Rattle.machine.specs.declared.Machine.{Machine}
 use Rattle.machine.specs.declared.Matrix.{Matrix}
 use Rattle.machine.specs.declared.Matrix.TheVariants.{MatrixA, MatrixB, MatrixC}
-use Rattle.machine.specs.declared.Answer.TheVariants.{BadWidth}
+use Rattle.machine.specs.declared.Refusal.TheVariants.{BadWidth}
 use Rattle.machine.specs.Answers.{Check, ◌otherwise◌}
 use Rattle.machine.specs.Geometry.{Parameters, parameters, State, state_of, start_of, pitch_of, register_count}
 use Rattle.machine.specs.Setting.{sew, maccq, maximum}
@@ -13,7 +13,7 @@ use Rattle.machine.specs.Operation.{tile_rows, tile_cols, rows_of, columns_of}
 use Rattle.machine.specs.Refusals.{typed, fitting}
 use Rattle.machine.specs.TransferWords.{width_of}
 use Rattle.machine.specs.Faults.{sound}
-use Rattle.numbers.proofs.PutLaws.{row_fits, next_row}
+use Rattle.numbers.proofs.PutLaws.{row_fits}
 use Rattle.machine.proofs.TestLaws.{and_right}
 use Rattle.machine.proofs.CheckLaws.{Passed}
 use Rattle.machine.proofs.StepLaws.{permitted-lengths}
@@ -55,11 +55,6 @@ in_row q P s c w h e =
 -- rows that fit end where they should
 pub rows_end : (start pitch rows n len : ℕ) → start + rows * pitch ≤ len → n ≤ pitch → RowsIn start pitch rows n len
 rows_end start pitch rows n len h f = (omega arith, λ i l. omega (arith, row_fits i rows pitch l))
-
--- the next of them starts at a number that does not wrap
-pub next_start : (start pitch rows n len i p q : ℕ) → RowsIn start pitch rows n len → len < 2 ^ 64 → p ≡ start + i * pitch → q ≡ (p + pitch) % 2 ^ 64 → i + 1 < rows
-    → q ≡ start + (i + 1) * pitch
-next_start start pitch rows n len i p q h b ep eq l = omega (arith, h.1 (i + 1) l, next_row i pitch, ep, eq)
 
 -- and rows that lie one after another end there as one
 pub together-end : (start pitch rows n len : ℕ) → RowsIn start pitch rows n len → n ≡ pitch → start + rows * n ≤ len

@@ -2,7 +2,7 @@
 -- start + i * pitch; in memory it has so many lines of n bytes each.
 use Rattle.std.specs.Prelude.{◌∷◌, ◌+◌, ◌*◌, ◌≤◌, ◌<◌}
 use Rattle.numbers.specs.Kit.{Bool, false, List, [], ℕ}
-use Rattle.machine.specs.declared.Answer.TheVariants.{OutsideMemory, SealedByte, RowsOverlap}
+use Rattle.machine.specs.declared.Refusal.TheVariants.{OutsideMemory, SealedByte, RowsOverlap}
 use Rattle.machine.specs.Answers.{Check, ◌otherwise◌}
 use Rattle.machine.specs.Memory.{row_at, inside, distinct, rows_miss}
 use Rattle.machine.specs.Refusals.{needs}

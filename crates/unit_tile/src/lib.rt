@@ -10,13 +10,12 @@ ghost use Rattle.unit_ranges.specs.Ranges.{seals_in};
 ghost use Rattle.machine.specs.Memory.{row_at, inside};
 ghost use Rattle.machine.specs.Operation.{element};
 ghost use Rattle.machine.specs.Refusals.{marked, needs};
-ghost use Rattle.machine.specs.declared.Answer.TheVariants.{OutsideMemory};
+ghost use Rattle.machine.specs.declared.Refusal.TheVariants.{OutsideMemory};
 ghost use Rattle.machine.specs.Answers.{verdict};
 ghost use Rattle.unit_tile.specs.Checks.{RowsIn, store_checks};
 
-use machine::Answer;
+use machine::{Answer, Refusal};
 use unit_address::{as_signed, row_address, rows_distinct, rows_inside};
-use unit_answers::is_done;
 use unit_ranges::rows_unsealed;
 use unit_row::{line_marked, mark_row, row_marked, write_row};
 
@@ -34,19 +33,15 @@ pub struct Transfer {
     pub width: usize,
 }
 
-// Whether each byte of the rows, of n bytes each, has its mark. The sum after the last row may wrap; it is not used.
+// Whether each byte of the rows, of n bytes each, has its mark.
 fn tile_marked(marks: &[u8], start: usize, pitch: usize, rows: usize, n: usize) -> bool
     requires { RowsIn start pitch rows n (length marks.now) }
     ensures { result ≡ marked marks.now (λ i. start + i * pitch) rows n }
 {
-    let mut first = start;
-    let mut i = 0;
-    while i < rows {
-        if !line_marked(marks, first, n) {
+    for i in 0..rows {
+        if !line_marked(marks, start + i * pitch, n) {
             return false;
         }
-        first = std::num::wrapping_add_usize(first, pitch);
-        i += 1;
     }
     true
 }
@@ -65,29 +60,20 @@ pub fn first_unmarked(
     ensures { result ≡ verdict (needs false marks.now (λ i. start + i * pitch) rows cols w ∷ []) }
 {
     if tile_marked(marks, start, pitch, rows, cols * w) {
-        return Answer::Done;
+        return Ok(());
     }
-    let mut found = Answer::Done;
-    let mut first = start;
-    let mut i = 0;
-    'tile: while i < rows {
-        let mut at = first;
-        let mut j = 0;
-        while j < cols {
-            if !row_marked(marks, at, w) {
-                found = Answer::Unwritten {
+    for i in 0..rows {
+        let first = start + i * pitch;
+        for j in 0..cols {
+            if !row_marked(marks, first + j * w, w) {
+                return Err(Refusal::Unwritten {
                     row: i as u64,
                     column: j as u64,
-                };
-                break 'tile;
+                });
             }
-            at += w;
-            j += 1;
         }
-        first = std::num::wrapping_add_usize(first, pitch);
-        i += 1;
     }
-    found
+    Ok(())
 }
 
 // Marks the rows of n bytes: as one row where each starts at the end of the one before.
@@ -99,12 +85,9 @@ pub fn mark_tile(marks: &mut [u8], start: usize, pitch: usize, rows: usize, n: u
         mark_row(&mut marks[start..], rows * n);
         return;
     }
-    let mut to = start;
-    let mut i = 0;
-    while i < rows {
+    for i in 0..rows {
+        let to = start + i * pitch;
         mark_row(&mut marks[to..], n);
-        to = std::num::wrapping_add_usize(to, pitch);
-        i += 1;
     }
 }
 
@@ -119,14 +102,10 @@ pub fn load_tile(registers: &mut [u8], memory: &[u8], t: Transfer)
     if bytes == 0 {
         return;
     }
-    let mut to = t.start;
-    let mut i = 0;
-    while i < t.rows {
+    for i in 0..t.rows {
+        let to = t.start + i * t.pitch;
         let from = row_address(t.base as usize, as_signed(t.stride), i);
-        let end = from + bytes;
-        write_row(&mut registers[to..], &memory[from..end]);
-        to += t.pitch;
-        i += 1;
+        write_row(&mut registers[to..], &memory[from..from + bytes]);
     }
 }
 
@@ -141,14 +120,10 @@ pub fn store_tile(memory: &mut [u8], registers: &[u8], t: Transfer)
     if bytes == 0 {
         return;
     }
-    let mut from = t.start;
-    let mut i = 0;
-    while i < t.rows {
+    for i in 0..t.rows {
         let to = row_address(t.base as usize, as_signed(t.stride), i);
-        let end = from + bytes;
-        write_row(&mut memory[to..], &registers[from..end]);
-        from += t.pitch;
-        i += 1;
+        let from = t.start + i * t.pitch;
+        write_row(&mut memory[to..], &registers[from..from + bytes]);
     }
 }
 
@@ -169,18 +144,15 @@ pub fn store_checked(
     ensures { result ≡ verdict (store_checks (sealed (seals_in seals.now)) marks.now t.start t.pitch len t.base t.stride t.rows t.columns t.width lines bytes) }
 {
     let at = t.base as usize;
-    let written = first_unmarked(marks, t.start, t.pitch, t.rows, t.columns, t.width);
-    if !is_done(written) {
-        return written;
-    }
+    first_unmarked(marks, t.start, t.pitch, t.rows, t.columns, t.width)?;
     if !rows_inside(len, at, t.stride, lines, bytes) {
-        return Answer::OutsideMemory;
+        return Err(Refusal::OutsideMemory);
     }
     if !rows_distinct(len, at, t.stride, lines, bytes) {
-        return Answer::RowsOverlap;
+        return Err(Refusal::RowsOverlap);
     }
     if !rows_unsealed(len, seals, at, t.stride, lines, bytes) {
-        return Answer::SealedByte;
+        return Err(Refusal::SealedByte);
     }
-    Answer::Done
+    Ok(())
 }

@@ -1,6 +1,10 @@
 -- Elements one stride apart: the address of the next by a wrapping add, and the columns of a tile as such elements.
 use Rattle.numbers.proofs.Kit.{◌≡◌, sym, ap, ◌∙◌, ◌⊎◌, inl, inr, true, ℕ, zero, suc, ◌+◌, ◌*◌, ◌-◌, ◌%◌, ◌^◌, ◌≤◌, ◌<◌, zero-mul, add-zero, mod-eq_of_lt}
 use Rattle.numbers.proofs.Kit.{mul-le-mul_right, arith, ℤ, pos, negsuc, ◌+ℤ◌, ◌*ℤ◌}
+use Rattle.numbers.proofs.Kit.{List, ◌++◌, take, drop, length}
+use Rattle.numbers.specs.Tile.{get_le, put_row, put_tile}
+use Rattle.numbers.proofs.PutLaws.{put_back, put_tile-next}
+use Rattle.numbers.proofs.ElementLaws.{put_row-cong}
 use Rattle.numbers.proofs.BlockLaws.{le-or-lt}
 use Rattle.numbers.proofs.ReduceLaws.{shift}
 use Rattle.machine.specs.Memory.{row_z, row_at, address, inside}
@@ -92,3 +96,14 @@ module _ (len start pitch rows cols w : ℕ) (h : start + rows * pitch ≤ len) 
       inside-true len (start + j * w) pitch rows w (λ i g.
       fits-true len w (start + j * w + i * pitch) (row_z (start + j * w) pitch i) (row_z-up (start + j * w) pitch i small)
       (omega (arith, h, f, across, mul-le-mul_right pitch g)))
+
+-- ---- a row of elements that lie one stride apart
+
+-- row i, gathered to where it starts in xs from elements of ys
+pub row-gathered : (at : ℕ → ℕ) (i cols w : ℕ) (value : ℕ → ℕ → ℕ) (start xs s ys : List ℕ) (p k : ℕ) (from : ℕ → ℕ) → xs ≡ put_tile at i cols w value start → p ≡ at i → p ≤ length xs
+    → k ≡ length xs - p → ((j : ℕ) → j < cols → get_le ys (from j) w ≡ value i j) → s ≡ put_row 0 cols w (λ j. get_le ys (from j) w) (take k (drop p xs))
+    → take p xs ++ (s ++ drop k (drop p xs)) ≡ put_tile at (i + 1) cols w value start
+row-gathered at i cols w value start xs s ys p k from e ep hp ek ev es =
+    put_back xs s p k cols w (λ j. get_le ys (from j) w) hp ek es
+    ∙ put_row-cong w p cols (λ j. get_le ys (from j) w) (value i) xs ev
+    ∙ put_tile-next at i cols w value start xs p e ep

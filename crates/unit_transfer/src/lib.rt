@@ -9,16 +9,15 @@ ghost use Rattle.machine.specs.Faults.{seals_fit};
 ghost use Rattle.unit_ranges.specs.Ranges.{seals_in};
 ghost use Rattle.machine.specs.Memory.{row_at, inside};
 ghost use Rattle.machine.specs.Operation.{element, placed, memory_rows, memory_cols};
-ghost use Rattle.machine.specs.declared.Answer.TheVariants.{OutsideMemory};
+ghost use Rattle.machine.specs.declared.Refusal.TheVariants.{OutsideMemory};
 ghost use Rattle.machine.specs.declared.Form.TheVariants.{Transposed};
 ghost use Rattle.machine.specs.Answers.{verdict, is_done, ◌otherwise◌};
 ghost use Rattle.unit_element.specs.Element.{Width};
 ghost use Rattle.unit_tile.specs.Checks.{store_checks};
 
-use machine::{Answer, Form};
+use machine::{Answer, Form, Refusal};
 use unit_address::{as_signed, row_address, rows_inside};
-use unit_answers::is_done;
-use unit_element::{read1, read2, read4, read8, write1, write2, write4, write8};
+use unit_element::Element;
 use unit_tile::{Transfer, load_tile, mark_tile, store_checked, store_tile};
 
 // Copies one element of w bytes.
@@ -28,22 +27,16 @@ pub fn copy_element(dst: &mut [u8], src: &[u8], to: usize, from: usize, w: usize
     requires w_in_bounds_2 { from + w ≤ length src.now }
     ensures { dst.new ≡ put_le to w (get_le src.now from w) dst.old }
 {
-    if w == 1 {
-        write1(dst, to, read1(src, from));
-        return;
+    match w {
+        1 => u8::write(dst, to, u8::read(src, from)),
+        2 => u16::write(dst, to, u16::read(src, from)),
+        4 => u32::write(dst, to, u32::read(src, from)),
+        _ => u64::write(dst, to, u64::read(src, from)),
     }
-    if w == 2 {
-        write2(dst, to, read2(src, from));
-        return;
-    }
-    if w == 4 {
-        write4(dst, to, read4(src, from));
-        return;
-    }
-    write8(dst, to, read8(src, from));
 }
 
-// Copies n elements that lie one stride apart in src to the front of dst, one after another.
+// Copies n elements that lie one stride apart in src to the front of dst, one after another. The stride is signed, so the next is
+// found by a sum that wraps; the one after the last is not used.
 fn gather(dst: &mut [u8], src: &[u8], base: u64, stride: u64, n: usize, w: usize)
     requires width { Width w }
     requires w_in_bounds { n * w ≤ length dst.old }
@@ -51,13 +44,9 @@ fn gather(dst: &mut [u8], src: &[u8], base: u64, stride: u64, n: usize, w: usize
     ensures { dst.new ≡ put_row 0 n w (λ j. get_le src.now (row_at base stride j) w) dst.old }
 {
     let mut from = base;
-    let mut to = 0;
-    let mut j = 0;
-    while j < n {
-        copy_element(dst, src, to, from as usize, w);
+    for j in 0..n {
+        copy_element(dst, src, j * w, from as usize, w);
         from = std::num::wrapping_add_u64(from, stride);
-        to += w;
-        j += 1;
     }
 }
 
@@ -72,10 +61,9 @@ fn gather_tile(registers: &mut [u8], memory: &[u8], t: Transfer)
     if t.columns == 0 {
         return;
     }
-    let mut to = t.start;
-    let mut from = t.base;
-    let mut i = 0;
-    while i < t.rows {
+    for i in 0..t.rows {
+        let to = t.start + i * t.pitch;
+        let from = t.base + (i * t.width) as u64;
         gather(
             &mut registers[to..],
             memory,
@@ -84,9 +72,6 @@ fn gather_tile(registers: &mut [u8], memory: &[u8], t: Transfer)
             t.columns,
             t.width,
         );
-        to += t.pitch;
-        from += t.width as u64;
-        i += 1;
     }
 }
 
@@ -101,10 +86,9 @@ fn scatter_tile(memory: &mut [u8], registers: &[u8], t: Transfer)
     if t.rows == 0 {
         return;
     }
-    let mut from = t.start;
-    let mut j = 0;
-    while j < t.columns {
+    for j in 0..t.columns {
         let to = row_address(t.base as usize, as_signed(t.stride), j);
+        let from = t.start + j * t.width;
         gather(
             &mut memory[to..],
             registers,
@@ -113,8 +97,6 @@ fn scatter_tile(memory: &mut [u8], registers: &[u8], t: Transfer)
             t.rows,
             t.width,
         );
-        from += t.width;
-        j += 1;
     }
 }
 
@@ -195,11 +177,11 @@ pub fn load(
     let bytes = memory_columns(form, t.rows, t.columns) * t.width;
     let len = memory.len();
     if !rows_inside(len, t.base as usize, t.stride, lines, bytes) {
-        return Answer::OutsideMemory;
+        return Err(Refusal::OutsideMemory);
     }
     copy_in(form, registers, memory, t);
     mark_tile(marks, t.start, t.pitch, t.rows, t.columns * t.width);
-    Answer::Done
+    Ok(())
 }
 
 // Stores a tile, or answers 5, 6, 13 or 7.
@@ -222,10 +204,7 @@ pub fn store(
 {
     let lines = memory_rows(form, t.rows, t.columns);
     let bytes = memory_columns(form, t.rows, t.columns) * t.width;
-    let answer = store_checked(marks, memory.len(), seals, t, lines, bytes);
-    if !is_done(answer) {
-        return answer;
-    }
+    store_checked(marks, memory.len(), seals, t, lines, bytes)?;
     copy_out(form, memory, registers, t);
-    Answer::Done
+    Ok(())
 }

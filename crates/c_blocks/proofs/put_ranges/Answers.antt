@@ -1,20 +1,17 @@
-use Rattle.numbers.proofs.Kit.{◌≡◌, refl, sym, ap, ap₂, ◌∙◌, List, ℕ, suc, ◌+◌, ◌-◌, ◌*◌, ◌≤◌, arith, length, get_or}
-use Rattle.numbers.specs.Upto.{upto}
-use Rattle.machine.specs.Geometry.{Range, range}
-use Rattle.machine.specs.Starting.{ranges}
+use Rattle.numbers.proofs.Kit.{refl, sym, ap, ap₂, ◌∙◌, ℕ, suc, ◌+◌, arith}
 use Rattle.unit_ranges.specs.Ranges.{put_range}
 use Rattle.c_blocks.proofs.BlockLaws.{ranges-at}
 use Rattle.c_blocks.proofs.put_ranges.Goals as goal
 use Rattle.c_blocks.proofs.put_ranges.Invariants.{put}
 
 pub loop-i-init : goal.loop-i-init
-loop-i-init c = (refl, omega arith, refl)
+loop-i-init c = (refl, refl)
 
 pub put_range-requires : goal.put_range-requires
 put_range-requires c =
     record {
       block_len = c.loop-i.invariant.0 ∙ c.requires.block_len;
-      i_bound = omega (arith, c.loop-i-test.true, c.requires.count_bound.0);
+      i_bound = omega (arith, c.requires.count_bound.0);
     }
 
 pub loop-i-preserved : goal.loop-i-preserved
@@ -22,9 +19,8 @@ loop-i-preserved c =
     let l = c.loop-i in
     let a = c.args in (
       c.put_range.auto.block ∙ l.invariant.0,
-      omega (arith, c.loop-i-test.true),
       c.put_range.ensures
-          ∙ ap₂ (put_range l.i) (sym (ranges-at a.seals.now l.i (omega (arith, c.loop-i-test.true, c.requires.count_bound.1)))) l.invariant.2
+          ∙ ap₂ (put_range l.i) (sym (ranges-at a.seals.now l.i (omega (arith, c.requires.count_bound.1)))) l.invariant.1
           ∙ ap (λ (n : ℕ). put a.seals.now n a.block.now) {x = suc l.i} {y = l.i + 1} (omega arith),
     )
 
@@ -35,4 +31,4 @@ pub returns : goal.returns
 returns c =
     let l = c.loop-i in
     let a = c.args in
-    l.invariant.2 ∙ ap (λ (n : ℕ). put a.seals.now n a.block.now) {x = l.i} {y = a.count} (omega (arith, l.invariant.1))
+    l.invariant.1 ∙ ap (λ (n : ℕ). put a.seals.now n a.block.now) {x = l.i} {y = a.count} (omega arith)

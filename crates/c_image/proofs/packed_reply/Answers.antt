@@ -1,14 +1,10 @@
-use Rattle.c_image.proofs.ImageLaws.{packs-done, packs-arguments, packs-room, packs-place}
+-- `c_image::packed_reply` meets its contract.
+use mathlib.Core.Path.{◌∙◌}
+use Rattle.c_image.proofs.ImageLaws.{packs-done, packs-refused}
 use Rattle.c_image.proofs.packed_reply.Goals as goal
 
-pub returns-in-Done : goal.returns-in-Done
-returns-in-Done c = let a = c.args in packs-done a.answer a.size c.in-Done.is
+pub returns-in-Ok : goal.returns-in-Ok
+returns-in-Ok c = packs-done c.args.reply c.in-Ok.size c.in-Ok.is
 
-pub returns-in-BadArguments : goal.returns-in-BadArguments
-returns-in-BadArguments c = let a = c.args in packs-arguments a.answer a.size c.in-BadArguments.is
-
-pub returns-in-NoRoom : goal.returns-in-NoRoom
-returns-in-NoRoom c = let a = c.args in packs-room a.answer a.size c.in-NoRoom.is
-
-pub returns-in-Damaged : goal.returns-in-Damaged
-returns-in-Damaged c = let a = c.args in packs-place a.answer a.size c.in-Damaged.place c.in-Damaged.is
+pub returns-in-Err : goal.returns-in-Err
+returns-in-Err c = c.packed_error.ensures ∙ packs-refused c.args.reply c.in-Err.e c.in-Err.is

@@ -1,30 +1,23 @@
-use mathlib.Core.Path.{refl, sym, ◌∙◌}
+use Rattle.std.specs.Prelude.{Ok, Err}
+use mathlib.Core.Path.{refl}
 use mathlib.Core.Bool.{true, false}
-use Rattle.c_run.proofs.RunLaws.{run-start-short, run-start-short-run, run-start-shown}
+use Rattle.machine.proofs.CodeLaws.{refused-not-done}
+use Rattle.run.specs.Start.{run_started}
+use Rattle.c_run.proofs.RunLaws.{run-start-shown}
 use Rattle.c_run.proofs.start.Goals as goal
 
-pub returns-then-machine-ne-MACHINE_BYTES : goal.returns-then-machine-ne-MACHINE_BYTES
-returns-then-machine-ne-MACHINE_BYTES c =
-    let a = c.args in
-    run-start-short a.plan a.machine.now a.registers.now a.marks.now a.memory.now a.run.now c.packed.result c.if-machine-ne-MACHINE_BYTES.true c.packed.ensures
-
-pub returns-then-run-ne-RUN_BYTES : goal.returns-then-run-ne-RUN_BYTES
-returns-then-run-ne-RUN_BYTES c =
-    let a = c.args in
-    run-start-short-run a.plan a.machine.now a.registers.now a.marks.now a.memory.now a.run.now c.packed-then-run-ne-RUN_BYTES.result c.if-machine-ne-MACHINE_BYTES.false c.if-run-ne-RUN_BYTES.true c.packed-then-run-ne-RUN_BYTES.ensures
-
-pub returns-then-not-is_done : goal.returns-then-not-is_done
-returns-then-not-is_done c =
+pub returns-in-Ok : goal.returns-in-Ok
+returns-in-Ok c =
     let a = c.args in
     run-start-shown a.plan a.machine.now a.registers.now a.marks.now a.memory.now a.run.now
-    false c.machine_of-held.result c.start-started.result a.run.now c.packed-then-not-is_done.result
-    c.if-machine-ne-MACHINE_BYTES.false c.if-run-ne-RUN_BYTES.false c.machine_of-held.ensures c.start-started.ensures
-    (sym c.is_done.ensures ∙ c.if-not-is_done.true) refl c.packed-then-not-is_done.ensures
+    true c.machine_of-held.result (run_started a.plan (Ok c.in-Ok.fresh)) c.put_run.new.block c.packed-in-Ok.result
+    c.if-machine-ne-MACHINE_BYTES.false c.if-run-ne-RUN_BYTES.false c.machine_of-held.ensures c.in-Ok.ensures
+    refl c.put_run.ensures c.packed-in-Ok.ensures
 
-pub returns : goal.returns
-returns c =
+pub returns-in-Err : goal.returns-in-Err
+returns-in-Err c =
     let a = c.args in
     run-start-shown a.plan a.machine.now a.registers.now a.marks.now a.memory.now a.run.now
-    true c.machine_of-held.result c.start-started.result c.put_run.new.block c.packed-2.result
-    c.if-machine-ne-MACHINE_BYTES.false c.if-run-ne-RUN_BYTES.false c.machine_of-held.ensures c.start-started.ensures
-    (sym c.is_done.ensures ∙ c.if-not-is_done.false) c.put_run.ensures c.packed-2.ensures
+    false c.machine_of-held.result (run_started a.plan (Err c.in-Err.refusal)) a.run.now c.packed-in-Err.result
+    c.if-machine-ne-MACHINE_BYTES.false c.if-run-ne-RUN_BYTES.false c.machine_of-held.ensures c.in-Err.ensures
+    (refused-not-done c.in-Err.refusal) refl c.packed-in-Err.ensures

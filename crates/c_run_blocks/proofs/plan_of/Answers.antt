@@ -4,4 +4,4 @@ use Rattle.c_run_blocks.proofs.plan_of.Goals as goal
 pub returns : goal.returns
 returns c =
     plan-is c.args.block.now c.layout_of-a.ensures c.layout_of-b.ensures c.layout_of-c.ensures
-    c.read8.ensures c.read8-2.ensures c.read8-3.ensures c.read8-4.ensures c.read8-5.ensures c.read8-6.ensures
+    c.read.ensures c.read-2.ensures c.read-3.ensures c.read-4.ensures c.read-5.ensures c.read-6.ensures

@@ -6,4 +6,4 @@ use Rattle.c_run_blocks.proofs.put_handed.Goals as goal
 
 pub returns : goal.returns
 unfolding put_handed put_numbers put_row
-returns c = write-next _ _ c.write8-3.ensures (write-next _ _ c.write8-2.ensures c.write8.ensures)
+returns c = write-next _ _ c.write-3.ensures (write-next _ _ c.write-2.ensures c.write.ensures)

@@ -6,5 +6,5 @@ use Rattle.c_run_blocks.proofs.put_sizes.Goals as goal
 pub returns : goal.returns
 unfolding put_numbers put_row
 returns c =
-    write-next _ _ c.write8-5.ensures
-    (write-next _ _ c.write8-4.ensures (write-next _ _ c.write8-3.ensures (write-next _ _ c.write8-2.ensures c.write8.ensures)))
+    write-next _ _ c.write-5.ensures
+    (write-next _ _ c.write-4.ensures (write-next _ _ c.write-3.ensures (write-next _ _ c.write-2.ensures c.write.ensures)))

@@ -4,4 +4,4 @@ use Rattle.c_run_blocks.proofs.run_of.Goals as goal
 pub returns : goal.returns
 returns c =
     run_is c.args.block.now c.plan_of-plan.ensures c.spot_in-spot.ensures c.place_of-place.ensures
-    c.read8.ensures c.read8-2.ensures c.read8-3.ensures c.read8-4.ensures
+    c.read.ensures c.read-2.ensures c.read-3.ensures c.read-4.ensures

@@ -7,5 +7,5 @@ use Rattle.c_salvage.proofs.put_report.Goals as goal
 pub returns : goal.returns
 unfolding put_numbers put_row
 returns c =
-    let a = c.args in
-    c.write8-3.ensures ∙ ap (put_le 16 8 a.place) (c.write8-2.ensures ∙ ap (put_le 8 8 a.announced) c.write8.ensures)
+    let s = c.args.salvaged in
+    c.write-3.ensures ∙ ap (put_le 16 8 s.place) (c.write-2.ensures ∙ ap (put_le 8 8 s.announced) c.write.ensures)

@@ -6,4 +6,4 @@ returns-then-slot-eq0 c = rw (eq-eqb c.args.slot 0 c.if-slot-eq0.true)
 
 pub returns : goal.returns
 returns c =
-    rw (ne_eqb c.args.slot 0 c.if-slot-eq0.false) c.write8.ensures
+    rw (ne_eqb c.args.slot 0 c.if-slot-eq0.false) c.write.ensures

@@ -1,10 +1,15 @@
-use Rattle.numbers.proofs.Kit.{sym, ◌∙◌}
+use Rattle.numbers.proofs.Kit.{refl, sym, ap, ◌∙◌}
+use Rattle.std.specs.Prelude.{Ok, Err}
 use Rattle.text_assembly.specs.Answers.{text_reply}
+use Rattle.text_answers.proofs.CodeLaws.{number-some}
+use Rattle.c_text.specs.TextCalls.{packed_result}
 use Rattle.c_text.proofs.CallLaws.{packs-size, packs-column}
 use Rattle.c_text.proofs.packed_text.Goals as goal
 
-pub returns-then-number-eq0 : goal.returns-then-number-eq0
-returns-then-number-eq0 c = packs-size (text_reply c.args.answer) c.args.size (sym c.answer_number-number.ensures ∙ c.if-number-eq0.true)
+pub returns-in-Ok : goal.returns-in-Ok
+returns-in-Ok c = packs-size (text_reply (Ok tt)) c.in-Ok.size refl ∙ sym (ap packed_result c.in-Ok.is)
 
-pub returns : goal.returns
-returns c = packs-column (text_reply c.args.answer) c.answer_number-number.result c.answer_column.result c.args.size c.answer_number-number.ensures c.answer_column.ensures c.if-number-eq0.false
+pub returns-in-Err : goal.returns-in-Err
+returns-in-Err c =
+    packs-column (text_reply (Err c.in-Err.error)) c.error_number.result c.error_column.result 0 c.error_number.ensures c.error_column.ensures (λ k. number-some c.in-Err.error (sym c.error_number.ensures ∙ k))
+    ∙ sym (ap packed_result c.in-Err.is)

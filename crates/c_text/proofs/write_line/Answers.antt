@@ -1,8 +1,6 @@
-use Rattle.numbers.proofs.Kit.{◌≡◌, refl, sym, ap, ◌∙◌, Bool, true, cond, ◌++◌, ◌≤◌, arith, leb, length, take, drop, length-take-le, lt-leb, le-leb}
+use Rattle.numbers.proofs.Kit.{◌≡◌, sym, ap, ◌∙◌, Bool, true, cond, ◌++◌, ◌≤◌, arith, leb, length, take, drop, length-take-le, lt-leb, le-leb}
 use Rattle.text_lines.proofs.WriteLaws.{wrote_as}
-use Rattle.machine.specs.Listing.{listing}
 use Rattle.text_assembly.specs.Lines.{line}
-use Rattle.text_read.specs.Table.{table}
 use Rattle.text_write.specs.Parts.{line_text}
 use Rattle.c_text.proofs.CallLaws.{text-short, front-written}
 use Rattle.c_text.proofs.write_line.Goals as goal
@@ -18,10 +16,9 @@ own : (c : After-put_line-size) → take c.put_line-size.result c.put_line-size.
 own c = c.put_line-size.ensures.text
 
 pub put_line-size-requires : goal.put_line-size-requires
-unfolding table listing
 put_line-size-requires c =
     record {
-      rows_value = (refl, refl, refl, c.requires.0, c.requires.1);
+      has_line = c.requires;
       word_in_bounds = omega (arith, text-short c.args.word (omega arith));
     }
 

@@ -4,19 +4,19 @@ use Rattle.numbers_coded.specs.At.{plain}
 use Rattle.image_header.proofs.HeadLaws.{count-end, count-bad, count-some}
 use Rattle.image_header.proofs.count_at.Goals as goal
 
-pub returns-then-wide-eq1 : goal.returns-then-wide-eq1
-returns-then-wide-eq1 c =
-    let w = c.wide in
+pub returns-then-from-eq1 : goal.returns-then-from-eq1
+returns-then-from-eq1 c =
+    let w = c.from in
     let a = c.args in
-    c.fault.ensures ∙ ap plain (count-bad a.s.now a.at w.result (omega (arith, c.if-at-s.true)) w.ensures c.if-wide-eq1.true)
+    ap plain (count-bad a.s.now a.at w.result (omega (arith, c.if-at-s.true)) w.ensures c.if-from-eq1.true)
 
 pub returns-then-at-s : goal.returns-then-at-s
 returns-then-at-s c =
-    let w = c.wide in
+    let w = c.from in
     let a = c.args in
-    c.number_at.ensures ∙ ap plain (count-some a.s.now a.at w.result (omega (arith, c.if-at-s.true)) w.ensures c.if-wide-eq1.false)
+    c.number_at.ensures ∙ ap plain (count-some a.s.now a.at w.result (omega (arith, c.if-at-s.true)) w.ensures c.if-from-eq1.false)
 
 pub returns : goal.returns
 returns c =
     let a = c.args in
-    c.fault-2.ensures ∙ ap plain (count-end a.s.now a.at (omega (arith, c.if-at-s.false)))
+    ap plain (count-end a.s.now a.at (omega (arith, c.if-at-s.false)))

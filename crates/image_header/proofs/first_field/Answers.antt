@@ -4,4 +4,4 @@ use Rattle.image_header.proofs.first_field.Goals as goal
 
 pub returns : goal.returns
 unfolding row_at
-returns c = rw c.permitted.ensures
+returns c = rw c.span.ensures

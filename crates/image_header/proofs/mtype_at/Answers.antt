@@ -10,14 +10,14 @@ overflow_sub-elen c = let s = c.before.before.before.before.before in omega (ari
 pub returns-then-b-elen : goal.returns-then-b-elen
 returns-then-b-elen c =
     let s = c.before.before.before.before.before.before.before in
-    let w = c.wide-b in
-    c.found.ensures ∙ ap plain (mtype-small s.args.s.now s.args.elen s.args.at s.requires w.result c.if-at-s.true w.ensures c.if-b-elen.true)
+    let w = c.from-b in
+    ap plain (mtype-small s.args.s.now s.args.elen s.args.at s.requires w.result c.if-at-s.true w.ensures c.if-b-elen.true)
 
 pub returns-then-b-lt8 : goal.returns-then-b-lt8
 returns-then-b-lt8 c =
     let s = c.before.before.before.before.before.before.before.before in
-    let w = c.wide-b in
-    c.fault.ensures ∙ ap plain (mtype-none s.args.s.now s.args.elen s.args.at s.requires w.result c.if-at-s.true w.ensures c.if-b-lt128.true (omega (arith, c.if-b-elen.false)) (inl c.if-b-lt8.true))
+    let w = c.from-b in
+    ap plain (mtype-none s.args.s.now s.args.elen s.args.at s.requires w.result c.if-at-s.true w.ensures c.if-b-lt128.true (omega (arith, c.if-b-elen.false)) (inl c.if-b-lt8.true))
 
 pub overflow_sub-elen-then-b-lt128 : goal.overflow_sub-elen-then-b-lt128
 overflow_sub-elen-then-b-lt128 c = let s = c.before.before.before.before.before.before.before in omega (arith, s.requires)
@@ -28,28 +28,28 @@ overflow_add-elen c = let s = c.before.before.before.before.before.before.before
 pub returns-then-b-elen-2 : goal.returns-then-b-elen-2
 returns-then-b-elen-2 c =
     let s = c.before.before.before.before.before.before.before.before.before in
-    let w = c.wide-b in
-    c.found-then-b-elen-2.ensures ∙ ap plain (mtype-eight s.args.s.now s.args.elen s.args.at s.requires w.result c.if-at-s.true w.ensures (omega (arith, c.if-b-lt8.false)) c.if-b-elen-2.true)
+    let w = c.from-b in
+    ap plain (mtype-eight s.args.s.now s.args.elen s.args.at s.requires w.result c.if-at-s.true w.ensures (omega (arith, c.if-b-lt8.false)) c.if-b-elen-2.true)
 
 pub returns-then-b-lt128 : goal.returns-then-b-lt128
 returns-then-b-lt128 c =
     let s = c.before.before.before.before.before.before.before.before.before in
-    let w = c.wide-b in
-    c.fault-then-b-lt128.ensures ∙ ap plain (mtype-none s.args.s.now s.args.elen s.args.at s.requires w.result c.if-at-s.true w.ensures c.if-b-lt128.true (omega (arith, c.if-b-elen.false)) (inr (omega (arith, c.if-b-elen-2.false))))
+    let w = c.from-b in
+    ap plain (mtype-none s.args.s.now s.args.elen s.args.at s.requires w.result c.if-at-s.true w.ensures c.if-b-lt128.true (omega (arith, c.if-b-elen.false)) (inr (omega (arith, c.if-b-elen-2.false))))
 
 pub returns-then-b-eq128 : goal.returns-then-b-eq128
 returns-then-b-eq128 c =
     let s = c.before.before.before.before.before.before.before in
-    let w = c.wide-b in
+    let w = c.from-b in
     c.number_at.ensures ∙ ap plain (mtype-wide s.args.s.now s.args.elen s.args.at s.requires w.result c.if-at-s.true w.ensures c.if-b-eq128.true)
 
 pub returns-then-at-s : goal.returns-then-at-s
 returns-then-at-s c =
     let s = c.before.before.before.before.before.before.before in
-    let w = c.wide-b in
-    c.fault-then-at-s.ensures ∙ ap plain (mtype-odd s.args.s.now s.args.elen s.args.at s.requires w.result c.if-at-s.true w.ensures (omega (arith, c.if-b-lt128.false, c.if-b-eq128.false)) (omega (arith, w.ensures, c.type_inv.s s.args.at)))
+    let w = c.from-b in
+    ap plain (mtype-odd s.args.s.now s.args.elen s.args.at s.requires w.result c.if-at-s.true w.ensures (omega (arith, c.if-b-lt128.false, c.if-b-eq128.false)) (omega (arith, w.ensures, c.type_inv.s s.args.at)))
 
 pub returns : goal.returns
 returns c =
     let s = c.before.before.before in
-    c.fault-2.ensures ∙ ap plain (mtype-end s.args.s.now s.args.elen s.args.at s.requires (omega (arith, c.if-at-s.false)))
+    ap plain (mtype-end s.args.s.now s.args.elen s.args.at s.requires (omega (arith, c.if-at-s.false)))

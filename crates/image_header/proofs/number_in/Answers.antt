@@ -1,31 +1,20 @@
 -- `image_header::number_in` meets its contract.
-use Rattle.numbers.proofs.Kit.{◌∙◌, eq-eqb, ne_eqb}
+use Rattle.numbers.proofs.Kit.{◌∙◌}
 use Rattle.image_header.specs.Fields.{number_in}
 use Rattle.image_header.proofs.number_in.Goals as goal
 
-pub returns-then-row-eq-SPAN : goal.returns-then-row-eq-SPAN
+pub returns-in-Span : goal.returns-in-Span
 unfolding number_in
-returns-then-row-eq-SPAN c =
-    let k = c.args.row.kind in
-    c.number_at.ensures ∙ rw (eq-eqb k 0 c.if-row-eq-SPAN.true)
+returns-in-Span c = c.number_at.ensures ∙ rw c.in-Span.is
 
-pub mtype_at-requires : goal.mtype_at-requires
-mtype_at-requires c = c.requires c.if-row-eq-MTYPE.true
-
-pub returns-then-row-eq-MTYPE : goal.returns-then-row-eq-MTYPE
+pub returns-in-Mtype : goal.returns-in-Mtype
 unfolding number_in
-returns-then-row-eq-MTYPE c =
-    let k = c.args.row.kind in
-    c.mtype_at.ensures ∙ rw (ne_eqb k 0 c.if-row-eq-SPAN.false, eq-eqb k 1 c.if-row-eq-MTYPE.true)
+returns-in-Mtype c = c.mtype_at.ensures ∙ rw c.in-Mtype.is
 
-pub returns-then-row-eq-COUNT : goal.returns-then-row-eq-COUNT
+pub returns-in-Count : goal.returns-in-Count
 unfolding number_in
-returns-then-row-eq-COUNT c =
-    let k = c.args.row.kind in
-    c.count_at.ensures ∙ rw (ne_eqb k 0 c.if-row-eq-SPAN.false, ne_eqb k 1 c.if-row-eq-MTYPE.false, eq-eqb k 2 c.if-row-eq-COUNT.true)
+returns-in-Count c = c.count_at.ensures ∙ rw c.in-Count.is
 
-pub returns : goal.returns
+pub returns-in-Ranges : goal.returns-in-Ranges
 unfolding number_in
-returns c =
-    let k = c.args.row.kind in
-    c.ranges_at.ensures ∙ rw (ne_eqb k 0 c.if-row-eq-SPAN.false, ne_eqb k 1 c.if-row-eq-MTYPE.false, ne_eqb k 2 c.if-row-eq-COUNT.false)
+returns-in-Ranges c = c.ranges_at.ensures ∙ rw c.in-Ranges.is

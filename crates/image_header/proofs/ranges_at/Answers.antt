@@ -1,29 +1,31 @@
 -- `image_header::ranges_at` meets its contract.
-use Rattle.numbers.proofs.Kit.{ap, ◌∙◌, arith, not-true, not-false}
+use Rattle.std.proofs.lemmas.Result.{err_from_is_err_and}
+use Rattle.numbers.proofs.Kit.{◌≡◌, ap, ◌∙◌, ℕ, ◌+◌, ◌-◌, arith}
 use Rattle.numbers_coded.specs.At.{plain}
-use Rattle.image_header.specs.Fields.{Place, placed, ranges_at}
+use Rattle.image_header.specs.Fields.{Place, placed, range_at, ranges_end, ranges_at}
 use Rattle.image_header.proofs.HeadLaws.{range-good, range-bad, ranges-none}
 use Rattle.image_header.proofs.HeadLaws.{ranges-bad, ranges-next}
 use Rattle.image_header.proofs.ranges_at.Goals as goal
 
-pub returns-then-not-range : goal.returns-then-not-range
+pub returns-in_err-at : goal.returns-in_err-at
 unfolding ranges_at
-returns-then-not-range c =
-    let r = c.range_at-range in
-    let l = c.loop-left in
+returns-in_err-at c =
+    let l = c.loop in
     let a = c.args in
-    c.fault.ensures ∙ ap (λ (x : Place). plain (placed a.start x)) (ranges-bad a.s.now l.left l.at r.result.at c.loop-left-test.true (range-bad r.result _ r.ensures (not-true _ c.if-not-range.true)) ∙ l.invariant)
+    let p = err_from_is_err_and c.from_residual.result c.from_residual.ensures.1 in
+    rw (p.1, p.2) (ap (λ (x : Place). plain (placed a.start x)) (ranges-bad a.s.now (a.count - l.counter) l.at _ (omega (arith, c.loop-test.true)) (range-bad (range_at a.s.now l.at) c.in_err-at.ensures) ∙ l.invariant))
 
-pub loop-left-preserved : goal.loop-left-preserved
-loop-left-preserved c =
-    let r = c.range_at-range in
-    let l = c.loop-left in
+pub loop-preserved : goal.loop-preserved
+loop-preserved c =
+    let l = c.loop in
     let a = c.args in
-    ranges-next a.s.now l.left l.at r.result.start r.result.size r.result.at c.loop-left-test.true (range-good r.result _ r.ensures (not-false _ c.if-not-range.false)) ∙ l.invariant
+    let e : a.count - (l.counter + 1) ≡ a.count - l.counter - 1 = omega arith in
+    ap (λ (x : ℕ). ranges_end a.s.now x c.in_ok-at.field-0.at) e
+    ∙ ranges-next a.s.now (a.count - l.counter) l.at _ _ _ (omega (arith, c.loop-test.true)) (range-good (range_at a.s.now l.at) c.in_ok-at.ensures) ∙ l.invariant
 
 pub returns : goal.returns
 unfolding ranges_at
 returns c =
-    let l = c.loop-left in
+    let l = c.loop in
     let a = c.args in
-    c.found.ensures ∙ ap (λ (x : Place). plain (placed a.start x)) (ranges-none a.s.now l.left l.at (omega (arith, c.loop-left-test.false)) ∙ l.invariant)
+    ap (λ (x : Place). plain (placed a.start x)) (ranges-none a.s.now (a.count - l.counter) l.at (omega (arith, c.loop-test.false)) ∙ l.invariant)

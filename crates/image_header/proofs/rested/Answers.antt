@@ -2,4 +2,4 @@
 use Rattle.image_header.proofs.rested.Goals as goal
 
 pub returns : goal.returns
-returns c = rw c.permitted.ensures
+returns c = rw c.span.ensures

@@ -1,12 +1,10 @@
 -- `image_salvage::salvage` meets its contract.
-use mathlib.Core.Path.{ap, ◌∙◌}
+use mathlib.Core.Path.{◌∙◌}
 use Prim.Native.Nat.{ℕ, ◌<◌}
 use native.Mathlib.Omega.{arith}
 use lib.ListN.{get_or}
 use Rattle.numbers_format.specs.Numbers.{ByteString}
 use Rattle.image_check.proofs.CheckLaws.{scan-fields, scan-headed}
-use Rattle.image_salvage.specs.declared.Salvaged.{Salvaged}
-use Rattle.image_salvage.specs.Salvage.{salvaged_as}
 use Rattle.image_salvage.proofs.StepLaws.{bytes-all}
 use Rattle.image_salvage.proofs.FreshLaws.{salvage-bad, salvage-good}
 use Rattle.image_salvage.proofs.salvage.Goals as goal
@@ -22,8 +20,7 @@ input k =
 pub returns-then-fields-ne-ALL_READ : goal.returns-then-fields-ne-ALL_READ
 returns-then-fields-ne-ALL_READ c =
     let a = c.args in
-    ap (λ (r : Salvaged). salvaged_as r a.room.now) c.refused.ensures
-    ∙ salvage-bad a.image.now (input (goal.at.returns-then-fields-ne-ALL_READ c).After-scan-found) c.scan-found.result.fields (scan-fields a.image.now c.scan-found.result c.scan-found.ensures) a.room.now c.if-fields-ne-ALL_READ.true
+    salvage-bad a.image.now (input (goal.at.returns-then-fields-ne-ALL_READ c).After-scan-found) c.scan-found.result.fields (scan-fields a.image.now c.scan-found.result c.scan-found.ensures) a.room.now c.if-fields-ne-ALL_READ.true
 
 pub returns : goal.returns
 returns c =

@@ -1,19 +1,11 @@
--- `image_write::exponent` meets its contract. The invariant: the halvings done and those left are all.
-use Rattle.numbers.proofs.Kit.{◌∙◌, ◌-◌, arith}
-use Rattle.image_write.proofs.ExponentLaws.{halved_none, more_left, halved-small, halved-more}
+-- `image_write::exponent` meets its contract.
+use Rattle.numbers.proofs.Kit.{◌≡◌, sym, ap, ◌∙◌, arith}
+use Rattle.image.specs.Images.{log2}
+use Rattle.image_write.proofs.ExponentLaws.{log2_is, log2_least}
 use Rattle.image_write.proofs.exponent.Goals as goal
-
-pub loop-x-init : goal.loop-x-init
-loop-x-init c = (omega arith, c.ranges.n.fits, omega arith)
-
-pub loop-x-preserved : goal.loop-x-preserved
-loop-x-preserved c =
-    let l = c.loop-x in
-    let more = more_left l.e l.x l.invariant.0 l.invariant.1 (omega arith) in
-    (omega arith, halved-small l.e l.x l.invariant.0 l.invariant.1 (omega arith), halved-more l.e l.x l.invariant.0 l.invariant.1 (omega arith) ∙ l.invariant.2)
 
 pub returns : goal.returns
 returns c =
-    let l = c.loop-x in
-    let none_left = halved_none (64 - l.e) l.x (omega arith) in
-    (omega (arith, none_left, l.invariant.2), l.invariant.0)
+    let log = c.ilog2 in
+    let is : log2 64 c.max.result ≡ log.result = log2_is 64 log.result c.max.result (omega (arith, log.ensures.bound)) log.ensures.power_le log.ensures.next_power_gt in
+    (c.from.ensures ∙ sym is ∙ ap (log2 64) c.max.ensures ∙ log2_least 64 c.args.n, omega (arith, c.from.ensures, log.ensures.bound))

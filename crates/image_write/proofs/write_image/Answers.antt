@@ -21,14 +21,14 @@ measure_of-measure-requires c =
     let s : sound_with a.m (seals_in a.block.now) R M ≡ true = sym c.is_sound.ensures ∙ c.if-not-is_sound.false in
     s
 
-pub returns-then-room-size : goal.returns-then-room-size
-returns-then-room-size c =
+pub returns-then-room-measure : goal.returns-then-room-measure
+returns-then-room-measure c =
     let a = c.args in
     let R = a.registers.now in
     let M = a.marks.now in
     let s : sound_with a.m (seals_in a.block.now) R M ≡ true = sym c.is_sound.ensures ∙ c.if-not-is_sound.false in
     let z = c.measure_of-measure in
-    write-short a.m (seals_in a.block.now) R M a.room.now s z.result.size z.ensures.size_value c.if-room-size.true
+    write-short a.m (seals_in a.block.now) R M a.room.now s z.result.size z.ensures.size_value c.if-room-measure.true
 
 pub put_image-requires : goal.put_image-requires
 put_image-requires c =
@@ -40,7 +40,7 @@ put_image-requires c =
     record {
       marks_value = s;
       count_value = z.ensures.count_value;
-      marks_in_bounds = omega (arith, z.ensures.size_value, c.if-room-size.false);
+      marks_in_bounds = omega (arith, z.ensures.size_value, c.if-room-measure.false);
     }
 
 pub returns : goal.returns
@@ -51,4 +51,4 @@ returns c =
     let s : sound_with a.m (seals_in a.block.now) R M ≡ true = sym c.is_sound.ensures ∙ c.if-not-is_sound.false in
     let z = c.measure_of-measure in
     let p = c.put_image in
-    write_done a.m (seals_in a.block.now) R M a.room.now s z.result.size z.ensures.size_value (omega (arith, c.if-room-size.false)) p.new.room p.ensures
+    write_done a.m (seals_in a.block.now) R M a.room.now s z.result.size z.ensures.size_value (omega (arith, c.if-room-measure.false)) p.new.room p.ensures

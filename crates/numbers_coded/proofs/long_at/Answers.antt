@@ -12,7 +12,7 @@ returns-then-hi-lo c =
     let m = k.before.most_after-hi in
     let p = k.before.before.before.before in
     let a = p.args in
-    c.fault.ensures ∙ ap plain (long-none a.s.now a.at a.low a.high a.g l.result m.result p.requires.0 p.requires.1 l.ensures m.ensures (omega arith))
+    ap plain (long-none a.s.now a.at a.low a.high a.g l.result m.result p.requires.0 p.requires.1 l.ensures m.ensures (omega arith))
 
 pub returns : goal.returns
 returns c =

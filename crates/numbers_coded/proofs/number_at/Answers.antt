@@ -9,23 +9,23 @@ pub returns-then-b-low : goal.returns-then-b-low
 returns-then-b-low c =
     let w = c.before.before.before in
     let a = w.before.before.before.before.args in
-    c.fault.ensures ∙ ap plain (one-low a.s.now a.at a.low a.high w.wide-b.result (omega arith) w.wide-b.ensures (omega arith) (omega arith))
+    ap plain (one-low a.s.now a.at a.low a.high w.from-b.result (omega arith) w.from-b.ensures (omega arith) (omega arith))
 
 pub returns-then-high-b : goal.returns-then-high-b
 returns-then-high-b c =
     let w = c.before.before.before.before in
     let a = w.before.before.before.before.args in
-    c.fault-then-high-b.ensures ∙ ap plain (one-high a.s.now a.at a.low a.high w.wide-b.result (omega arith) w.wide-b.ensures (omega arith) (omega arith) (omega arith))
+    ap plain (one-high a.s.now a.at a.low a.high w.from-b.result (omega arith) w.from-b.ensures (omega arith) (omega arith) (omega arith))
 
 pub returns-then-b-lt128 : goal.returns-then-b-lt128
 returns-then-b-lt128 c =
     let w = c.before.before.before.before in
     let a = w.before.before.before.before.args in
-    c.found.ensures ∙ ap plain (one_last a.s.now a.at a.low a.high w.wide-b.result (omega arith) w.wide-b.ensures (omega arith) (omega arith) (omega arith))
+    ap plain (one_last a.s.now a.at a.low a.high w.from-b.result (omega arith) w.from-b.ensures (omega arith) (omega arith) (omega arith))
 
 pub long_at-requires : goal.long_at-requires
 long_at-requires c =
-    let w = c.before.wide-b in
+    let w = c.before.from-b in
     let a = c.before.before.before.before.before.args in
     let few = c.type_inv.s a.at in
     (omega arith, sym w.ensures ∙ omega arith, omega (arith, w.ensures, few))
@@ -33,4 +33,4 @@ long_at-requires c =
 pub returns : goal.returns
 returns c =
     let a = c.before.before.before.args in
-    c.fault-2.ensures ∙ ap plain (at-end a.s.now a.at a.low a.high (omega arith))
+    ap plain (at-end a.s.now a.at a.low a.high (omega arith))

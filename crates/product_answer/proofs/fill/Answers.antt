@@ -1,21 +1,7 @@
-use Rattle.numbers.proofs.Kit.{ap, ◌∙◌, ℕ, ◌+◌, ◌*◌, arith, get_or}
+use Rattle.numbers.proofs.Kit.{ap, ◌∙◌, ◌+◌, arith, get_or}
 use Rattle.numbers.specs.Tile.{put_row}
-use Rattle.product_answer.proofs.RunLaws.{part_length, part-put}
+use Rattle.product_answer.proofs.RunLaws.{part-put}
 use Rattle.product_answer.proofs.fill.Goals as goal
-
-pub put_elements-requires : goal.put_elements-requires
-put_elements-requires c =
-    record {
-      short = c.requires.short;
-      width_in_bounds = omega (arith, ap (λ (t : ℕ). t * c.args.width) (part_length c.args.numbers.now 5 c.args.a (omega arith)));
-    }
-
-pub put_elements-requires-2 : goal.put_elements-requires-2
-put_elements-requires-2 c =
-    record {
-      short = c.requires.short;
-      width_in_bounds = omega (arith, ap (λ (t : ℕ). t * c.args.width) (part_length c.args.numbers.now (5 + c.args.a) c.args.b (omega arith)), c.put_elements.auto.memory);
-    }
 
 pub returns : goal.returns
 returns c =

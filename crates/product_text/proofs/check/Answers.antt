@@ -1,12 +1,12 @@
 use Rattle.numbers.proofs.Kit.{◌≡◌, sym, ap₂, ◌∙◌, Bool, true, false, List, map, some, ℕ, ◌+◌, ◌*◌, ◌-◌, ◌^◌, ◌≤◌, mul-le-mul, length, drop, get_or, ℤ}
-use Rattle.numbers.proofs.Kit.{le-leb, lt-leb, eq-eqb, ne_eqb}
+use Rattle.numbers.proofs.Kit.{le-leb, eq-eqb, arith}
 use Rattle.machine.specs.Tests.{all_of}
 use Rattle.run.specs.Start.{format}
-use Rattle.product_text.specs.declared.Parsed.TheVariants.{Refused}
+use Rattle.std.specs.Prelude.{None}
 use Rattle.product_text.specs.Problem.{posed}
-use Rattle.product_text.specs.Parts.{held, inside, parsed_as}
+use Rattle.product_text.specs.Parts.{held, inside}
 use Rattle.product_text.proofs.ListLaws.{rest_of}
-use Rattle.product_text.proofs.ProblemLaws.{Five, held_tests, format-sew, too_few, refuses, accepts}
+use Rattle.product_text.proofs.ProblemLaws.{Five, asked, held_tests, format-sew, refuses, accepts}
 use Rattle.product_text.proofs.check.Goals as goal
 use Rattle.product_text.proofs.check.Goals.{After-each_inside, After-size-n, Else-n-gt16, Else-not-is_format}
 
@@ -30,7 +30,7 @@ n c = c.size-n.result
 
 five : (c : After-size-n) → Five (xs c) (sew c) (factor c) (m c) (k c) (n c)
 five c = record {
-  long = c.if-xs-lt5.false;
+  long = omega arith;
   at0 = c.size-sew.ensures;
   at1 = c.size-factor.ensures;
   at2 = c.size-m.ensures;
@@ -42,7 +42,7 @@ abbrev the_tests : After-size-n → List Bool
 the_tests c = held_tests (xs c) (sew c) (factor c) (m c) (k c) (n c)
 
 -- test i fails
-fails : (c : After-size-n) (i : ℕ) → get_or (the_tests c) i true ≡ false → (zs : List ℤ) → map held zs ≡ xs c → Refused ≡ parsed_as (posed (some zs))
+fails : (c : After-size-n) (i : ℕ) → get_or (the_tests c) i true ≡ false → (zs : List ℤ) → map held zs ≡ xs c → None ≡ asked (posed (some zs))
 fails c i t zs e = refuses zs (xs c) e (sew c) (factor c) (m c) (k c) (n c) (five c) i t
 
 -- what the tests that have passed say
@@ -57,31 +57,8 @@ elements c = c.each_inside.ensures ∙ ap₂ (λ (h : ℕ) (l : List ℕ). all_o
 
 -- ---- the rules
 
-pub returns-then-xs-lt5 : goal.returns-then-xs-lt5
-returns-then-xs-lt5 c = λ zs e. too_few zs c.args.xs.now e c.if-xs-lt5.true
-
 pub returns-then-not-is_format : goal.returns-then-not-is_format
 returns-then-not-is_format c = fails (goal.at.returns-then-not-is_format c).After-size-n 0 (sym c.is_format.ensures ∙ c.if-not-is_format.true)
-
-pub returns-then-m-gt16 : goal.returns-then-m-gt16
-returns-then-m-gt16 c =
-    let d = (goal.at.returns-then-m-gt16 c).After-size-n in
-    fails d 1 (lt-leb (m d) 16 c.if-m-gt16.true)
-
-pub returns-then-k-gt16 : goal.returns-then-k-gt16
-returns-then-k-gt16 c =
-    let d = (goal.at.returns-then-k-gt16 c).After-size-n in
-    fails d 2 (lt-leb (k d) 16 c.if-k-gt16.true)
-
-pub returns-then-n-gt16 : goal.returns-then-n-gt16
-returns-then-n-gt16 c =
-    let d = (goal.at.returns-then-n-gt16 c).After-size-n in
-    fails d 3 (lt-leb (n d) 16 c.if-n-gt16.true)
-
-pub returns-then-xs-m : goal.returns-then-xs-m
-returns-then-xs-m c =
-    let d = (goal.at.returns-then-xs-m c).After-size-n in
-    fails d 4 (ne_eqb (length (xs d)) (5 + m d * k d + k d * n d) c.if-xs-m.true)
 
 pub half-requires : goal.half-requires
 half-requires c =
@@ -104,7 +81,7 @@ returns c =
           (
             le-leb (n d) 16 c.if-n-gt16.false,
             (
-              eq-eqb (length (xs d)) (5 + m d * k d + k d * n d) c.if-xs-m.false,
+              eq-eqb (length (xs d)) (5 + m d * k d + k d * n d) (omega arith),
               (sym (elements (goal.at.returns c).After-each_inside) ∙ c.if-not-each_inside.false, tt),
             ),
           ),

@@ -1,89 +1,68 @@
-use Rattle.numbers.proofs.Kit.{subst, ◌≡◌, refl, ap, ◌∙◌, List, [], ◌∷◌, Option, ℕ, ◌≤◌, ◌<◌, arith, length, drop, length-set}
-use Rattle.product_text.specs.Parts.{held_in, front, put_front, onto, ahead, front_ahead, onward}
-use Rattle.product_text.proofs.ReadLaws.{onto-nil, read_more, read-end, read-many, read-bad, put-more, put_last, put_full}
+-- The words of the text come one by one.
+use Rattle.std.proofs.Common.{rules}
+use Rattle.numbers.proofs.Kit.{◌≡◌, sym, ap, ◌∙◌, ◌<◌, arith, length, drop, get_or, length-set}
+use borrow.Author.Tests.{tests}
+use Rattle.std.proofs.lemmas.List.{length_push}
+use Rattle.std.proofs.lemmas.Iterator.Splits.{YieldsList-from_slice_split}
+use Rattle.std.proofs.lemmas.Iterator.Consumers.{YieldsList-from_filter, YieldsList-turn, YieldsList-end}
+use Rattle.product_text.specs.Text.{separator, words}
+use Rattle.product_text.specs.Parts.{held_in, front, front_of}
+use Rattle.product_text.proofs.ReadLaws.{some_byte, words-are, held_of, value-ahead, other-ahead, none-ahead, read_more, read-end, read-many, read-bad, put-more, put_last, put_full}
 use Rattle.product_text.proofs.read_all.Goals as goal
-use Rattle.product_text.proofs.read_all.Goals.{After-next_number, At-loop-held, In-Number}
+use Rattle.product_text.proofs.read_all.Goals.{After-read_word}
 
--- the numbers of the text, and those ahead
-abbrev all : At-loop-held → Option (List ℕ)
-all c = held_in c.args.text.now
+-- the word of a turn
+turn : (c : After-read_word) → (c.loop-word.n < length (words c.args.text.now)) × (c.in-Some.word.now ≡ get_or (words c.args.text.now) c.loop-word.n c.in-Some.word.now)
+turn c =
+    let t = c.args.text.now in
+    let n = c.loop-word.invariant.0 in
+    rw (n, ← words-are t)
+    (YieldsList-turn (YieldsList-from_filter _ some_byte (YieldsList-from_slice_split _ separator t (cc) (cc) (cc) (λ x b q k. search (rules, tests))) (cc) (λ x b q k. search (rules, tests)))
+    c.loop-word.yielded _ c.loop-word.yielded_by _ _ c.in-Some.word c.in-Some.is c.next.ensures.steps)
 
-abbrev here : At-loop-held → Option (List ℕ)
-here c = held_in (drop c.loop-held.at c.args.text.now)
-
--- a number stands next
-abbrev next : In-Number → Option (List ℕ)
-next c = held_in (drop c.in-Number.next c.args.text.now)
-
-read_next : (c : In-Number) → here (goal.at.In-Number c).At-loop-held ≡ onto (c.in-Number.held ∷ []) (next c)
-read_next c = c.next_number.ensures.text_value ∙ ap (ahead c.args.text.now) c.in-Number.is
-
-read-onward : (c : In-Number) → (c.loop-held.at < c.in-Number.next) × (c.in-Number.next ≤ length c.args.text.now) × (c.in-Number.held ≤ 0x2_0000_0000)
-read-onward c = subst (onward c.args.text.now c.loop-held.at) c.in-Number.is c.next_number.ensures.onward
-
--- the numbers at the front of the text, and of what is ahead of it
-abbrev fronts : At-loop-held → List ℕ
-fronts c = front c.args.text.now
-
-abbrev front-here : At-loop-held → List ℕ
-front-here c = front (drop c.loop-held.at c.args.text.now)
-
-front-told : (c : After-next_number) → front-here (goal.at.After-next_number c).At-loop-held ≡ front_ahead c.args.text.now c.next_number.result
-front-told c = c.next_number.ensures.text_value_2
-
-front-next : (c : In-Number) → front-here (goal.at.In-Number c).At-loop-held ≡ c.in-Number.held ∷ front (drop c.in-Number.next c.args.text.now)
-front-next c = front-told (goal.at.In-Number c).After-next_number ∙ ap (front_ahead c.args.text.now) c.in-Number.is
-
--- what was lent
-abbrev lent : At-loop-held → List ℕ
-lent c = c.args.out.now
-
-no_more : (c : At-loop-held) → front-here c ≡ [] → c.loop-held.out ≡ put_front (fronts c) (lent c)
-no_more c e = let l = c.loop-held in put_last (fronts c) (front-here c) l.out (lent c) l.n l.invariant.1 l.invariant.2 l.invariant.4 l.invariant.5 e
-
-pub loop-held-init : goal.loop-held-init
-loop-held-init c = (omega arith, omega arith, refl, onto-nil (held_in c.args.text.now), refl, refl)
+pub loop-word-preserved : goal.loop-word-preserved
+loop-word-preserved c =
+    let l = c.loop-word in
+    let ws = words c.args.text.now in
+    let x = c.in_ok-held.held in
+    let a = value-ahead ws l.n _ (turn (goal.at.loop-word-preserved c).After-read_word) x (sym c.read_word.ensures ∙ c.in_ok-held.was) in
+    let h : l.n < length l.out = omega (arith, c.if-n-out.false) in
+    let m = put-more (front_of ws) (front_of (drop l.n ws)) l.out c.args.out.now l.n l.invariant.1 c.loop-word.auto.out l.invariant.3 l.invariant.4 _ x a.1 h in
+    (omega (arith, length_push l.yielded c.in-Some.word), simp length-set (omega arith), read_more (held_of ws) (held_of (drop l.n ws)) l.out l.n l.invariant.2 _ x a.0 h, m.0, m.1)
 
 pub returns-then-n-out : goal.returns-then-n-out
+unfolding held_in front
 returns-then-n-out c =
-    let d = (goal.at.returns-then-n-out c).At-loop-held in
-    let g = (goal.at.returns-then-n-out c).In-Number in
-    let l = c.loop-held in
+    let l = c.loop-word in
+    let ws = words c.args.text.now in
+    let x = c.in_ok-held.held in
+    let a = value-ahead ws l.n _ (turn (goal.at.returns-then-n-out c).After-read_word) x (sym c.read_word.ensures ∙ c.in_ok-held.was) in
     record {
-      counted = read-many (all d) (here d) l.out l.n l.invariant.3 (next g) c.in-Number.held (read_next g) c.if-n-out.true;
-      out_after = put_full (fronts d) (front-here d) l.out (lent d) l.n l.invariant.1 l.invariant.2 l.invariant.4 l.invariant.5 c.if-n-out.true;
+      counted = read-many (held_of ws) (held_of (drop l.n ws)) l.out l.n l.invariant.2 _ x a.0 c.if-n-out.true;
+      out_after = put_full (front_of ws) (front_of (drop l.n ws)) l.out c.args.out.now l.n l.invariant.1 c.loop-word.auto.out l.invariant.3 l.invariant.4 c.if-n-out.true;
     }
 
-pub loop-held-smaller : goal.loop-held-smaller
-loop-held-smaller c = let w = read-onward (goal.at.loop-held-smaller c).In-Number in omega arith
+pub returns-in_err-held : goal.returns-in_err-held
+unfolding held_in front
+returns-in_err-held c =
+    let l = c.loop-word in
+    let ws = words c.args.text.now in
+    let a = other-ahead ws l.n _ (turn (goal.at.returns-in_err-held c).After-read_word) (sym c.read_word.ensures ∙ c.in_err-held.was) in
+    rw c.from_residual.ensures (record {
+      counted = read-bad (held_of ws) (held_of (drop l.n ws)) l.out l.n l.invariant.2 a.0;
+      out_after = put_last (front_of ws) (front_of (drop l.n ws)) l.out c.args.out.now l.n l.invariant.1 c.loop-word.auto.out l.invariant.3 l.invariant.4 a.1;
+    })
 
-pub loop-held-preserved : goal.loop-held-preserved
-loop-held-preserved c =
-    let d = (goal.at.loop-held-preserved c).At-loop-held in
-    let g = (goal.at.loop-held-preserved c).In-Number in
-    let l = c.loop-held in
-    let x = c.in-Number.held in
-    let k = length-set l.out l.n x in
-    let h : l.n < length l.out = omega (arith, c.if-n-out.false) in
-    let m = put-more (fronts d) (front-here d) l.out (lent d) l.n l.invariant.1 l.invariant.2 l.invariant.4 l.invariant.5 _ x (front-next g) h in
-    ((read-onward g).1, omega arith, omega arith, read_more (all d) (here d) l.out l.n l.invariant.3 (next g) x (read_next g) h, m.0, m.1)
-
-pub returns-in-End : goal.returns-in-End
-returns-in-End c =
-    let d = (goal.at.returns-in-End c).At-loop-held in
-    let l = c.loop-held in
+pub returns : goal.returns
+unfolding held_in front
+returns c =
+    let l = c.loop-word in
     let t = c.args.text.now in
+    let ws = words t in
+    let e = YieldsList-end (YieldsList-from_filter _ some_byte (YieldsList-from_slice_split _ separator t (cc) (cc) (cc) (λ x b q k. search (rules, tests))) (cc) (λ x b q k. search (rules, tests)))
+    l.yielded _ l.yielded_by _ _ c.in-None.is c.next.ensures.steps in
+    let a = none-ahead ws l.n (omega (arith, e.1, ap length (words-are t))) in
     record {
-      counted = (l.invariant.1, read-end (all d) (here d) l.out l.n l.invariant.3 (c.next_number.ensures.text_value ∙ ap (ahead t) c.in-End.is));
-      out_after = no_more d (front-told (goal.at.returns-in-End c).After-next_number ∙ ap (front_ahead t) c.in-End.is);
-    }
-
-pub returns-in-Bad : goal.returns-in-Bad
-returns-in-Bad c =
-    let d = (goal.at.returns-in-Bad c).At-loop-held in
-    let l = c.loop-held in
-    let t = c.args.text.now in
-    record {
-      counted = read-bad (all d) (here d) l.out l.n l.invariant.3 (c.next_number.ensures.text_value ∙ ap (ahead t) c.in-Bad.is);
-      out_after = no_more d (front-told (goal.at.returns-in-Bad c).After-next_number ∙ ap (front_ahead t) c.in-Bad.is);
+      counted = (l.invariant.1, read-end (held_of ws) (held_of (drop l.n ws)) l.out l.n l.invariant.2 a.0);
+      out_after = put_last (front_of ws) (front_of (drop l.n ws)) l.out c.args.out.now l.n l.invariant.1 c.loop-word.auto.out l.invariant.3 l.invariant.4 a.1;
     }

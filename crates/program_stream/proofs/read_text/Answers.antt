@@ -1,13 +1,17 @@
-use Rattle.std.proofs.Common.{rules, ◌∙◌, ◌++◌, ap, sym, subst, take, drop}
-use Rattle.std.specs.Io.KnownBytes.{Consumes}
+use Rattle.std.proofs.Common.{rules, ◌≡◌, List, ℕ, ◌+◌, ◌-◌, ◌≤◌, ◌++◌, arith, length, take, length-take-le}
+use Rattle.std.proofs.Math.Seq.{take-append-add}
+use Rattle.std.proofs.lemmas.List.{take-append-le}
 use Rattle.std.proofs.KnownBytes.{Consumes-trans}
-use Rattle.std.proofs.Math.Seq.{take-add}
+use borrow.Rule.Slice.PartMut.{put_mid, post_of}
 use Rattle.program_stream.proofs.read_text.Goals as goal
+
+-- what stands before a part of a list, and the front of the part
+front-put_mid : (a k n : ℕ) (xs ys : List ℕ) → a ≤ length xs → n ≤ length ys → take (a + n) (put_mid a k xs ys) ≡ take a xs ++ take n ys
+front-put_mid a k n xs ys h l =
+    let e = length-take-le a xs h in
+    rw (take-append-le n ys (post_of a k xs) l) at (rw e at (take-append-add (take a xs) (ys ++ post_of a k xs) n))
 
 pub loop-done-preserved : goal.loop-done-preserved
 loop-done-preserved g c =
-    let done = c.loop-done.done in
-    let some = c.read_some-some in
-    let part = take some.result.count (drop done some.new.text) in
-    let joined = ap (λ l. l ++ part) (sym some.ensures.before) ∙ sym (take-add done some.result.count some.new.text) in
-    (search rules, search rules, subst (Consumes _ _) joined (Consumes-trans _ _ _ _ _ c.loop-done.invariant.2 some.ensures.bytes))
+    let grown = front-put_mid c.loop-done.done (length c.loop-done.text - c.loop-done.done) c.in-Ok.count c.loop-done.text c.read.new.buf (omega arith) c.in-Ok.ensures.bound.0 in
+    (search rules, rw grown (Consumes-trans _ _ _ _ _ c.loop-done.invariant.1 c.in-Ok.ensures.bytes.0))

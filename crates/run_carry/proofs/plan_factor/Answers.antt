@@ -1,5 +1,6 @@
+use Rattle.numbers.proofs.Kit.{arith}
 use Rattle.run_carry.proofs.CarriedLaws.{factor-one}
 use Rattle.run_carry.proofs.plan_factor.Goals as goal
 
-pub returns : goal.returns
-returns c = factor-one c.args.plan c.requires c.if-plan-eq4.false c.if-plan-eq2.false
+pub returns-in_default : goal.returns-in_default
+returns-in_default c = factor-one c.args.plan c.requires (omega arith) (omega arith)

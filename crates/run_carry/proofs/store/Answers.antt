@@ -11,7 +11,7 @@ pub returns : goal.returns
 returns c =
     let a = c.args in
     let w = c.wide_bytes-bytes.ensures.value in
-    let e = c.start_of-start.ensures ∙ ap (address_in a.plan.c a.row) (c.small_times-offset.ensures ∙ ap (λ (b : ℕ). a.column * b) w) in
+    let e = c.element_address-start.ensures ∙ ap (address_in a.plan.c a.row) (ap (λ (b : ℕ). a.column * b) w) in
     let o = ap₂ (λ (w p : ℕ). Operation.store Plain MatrixC 0 w p a.plan.c.stride) w e in
     c-carried a.plan c.requires.plan_value a.m (seals_in a.seals.now) a.registers.now a.marks.now a.memory.now c.requires.marks_value c.requires.seals_value c.store.result a.row a.column _
     (stores-for o c.store.ensures)

@@ -1,10 +1,6 @@
-use Rattle.numbers.proofs.Kit.{◌≡◌, sym, ap, ◌∙◌, subst, true, arith}
-use Rattle.machine.specs.Setting.{chosen}
+use Rattle.numbers.proofs.Kit.{◌≡◌, subst, true, arith}
 use Rattle.run.specs.declared.Place.{Place}
-use Rattle.run.specs.Places.{word_at}
-use Rattle.run.specs.Turn.{run_shape}
 use Rattle.run_plan.specs.Parts.{in_matrices}
-use Rattle.run_next.specs.Parts.{handed_of}
 use Rattle.run_plan.proofs.PlanLaws.{at-m, at_store, at-multiply}
 use Rattle.run_place.proofs.RunPlaceLaws.{run-numbered, run-placed, run-planned, run-sizes}
 use Rattle.run_next.proofs.handed_at.Goals as goal
@@ -83,53 +79,3 @@ hand_store-requires c =
       plan_value = run-planned R (run-numbered R c.requires);
       row_bound = (omega (arith, b.0, z.0), omega (arith, b.1, z.2));
     }
-
-pub returns-in-AtType : goal.returns-in-AtType
-returns-in-AtType c =
-    let R = c.args.run in
-    c.hand_type.ensures ∙ ap (λ (q : Place). handed_of R.plan (word_at (run_shape chosen R) q)) (sym c.in-AtType.is)
-
-pub returns-in-AtM : goal.returns-in-AtM
-returns-in-AtM c =
-    let R = c.args.run in
-    c.hand_setting.ensures ∙ ap (λ (q : Place). handed_of R.plan (word_at (run_shape chosen R) q)) (sym c.in-AtM.is)
-
-pub returns-in-AtN : goal.returns-in-AtN
-returns-in-AtN c =
-    let R = c.args.run in
-    c.hand_setting-in-AtN.ensures ∙ ap (λ (q : Place). handed_of R.plan (word_at (run_shape chosen R) q)) (sym c.in-AtN.is)
-
-pub returns-in-AtClear : goal.returns-in-AtClear
-returns-in-AtClear c =
-    let R = c.args.run in
-    c.hand_clear.ensures ∙ ap (λ (q : Place). handed_of R.plan (word_at (run_shape chosen R) q)) (sym c.in-AtClear.is)
-
-pub returns-in-AtK : goal.returns-in-AtK
-returns-in-AtK c =
-    let R = c.args.run in
-    c.hand_setting-in-AtK.ensures ∙ ap (λ (q : Place). handed_of R.plan (word_at (run_shape chosen R) q)) (sym c.in-AtK.is)
-
-pub returns-in-AtA : goal.returns-in-AtA
-returns-in-AtA c =
-    let R = c.args.run in
-    c.hand_load_a.ensures ∙ ap (λ (q : Place). handed_of R.plan (word_at (run_shape chosen R) q)) (sym c.in-AtA.is)
-
-pub returns-in-AtB : goal.returns-in-AtB
-returns-in-AtB c =
-    let R = c.args.run in
-    c.hand_load_b.ensures ∙ ap (λ (q : Place). handed_of R.plan (word_at (run_shape chosen R) q)) (sym c.in-AtB.is)
-
-pub returns-in-AtMultiply : goal.returns-in-AtMultiply
-returns-in-AtMultiply c =
-    let R = c.args.run in
-    c.hand_multiply.ensures ∙ ap (λ (q : Place). handed_of R.plan (word_at (run_shape chosen R) q)) (sym c.in-AtMultiply.is)
-
-pub returns-in-AtStore : goal.returns-in-AtStore
-returns-in-AtStore c =
-    let R = c.args.run in
-    c.hand_store.ensures ∙ ap (λ (q : Place). handed_of R.plan (word_at (run_shape chosen R) q)) (sym c.in-AtStore.is)
-
-pub returns-in-AtEnd : goal.returns-in-AtEnd
-returns-in-AtEnd c =
-    let R = c.args.run in
-    c.plain_step.ensures ∙ ap (λ (q : Place). handed_of R.plan (word_at (run_shape chosen R) q)) (sym c.in-AtEnd.is)

@@ -1,9 +1,7 @@
-use Rattle.numbers.proofs.Kit.{◌≡◌, sym, ap, ◌∙◌, true, ℕ, arith}
-use Rattle.numbers.specs.Blocks.{count}
+use Rattle.numbers.proofs.Kit.{◌≡◌, sym, ◌∙◌, true, arith}
 use Rattle.machine.specs.Setting.{chosen}
 use Rattle.run.specs.Turn.{sound_run}
 use Rattle.run_place.proofs.RunPlaceLaws.{run-numbered, run-most, run-sizes, run-blocks}
-use Rattle.run_next.proofs.AskingLaws.{no_steps, steps-counted}
 use Rattle.run_place.proofs.CountLaws.{count-least}
 use Rattle.run_next.proofs.steps.Goals as goal
 use Rattle.run_next.proofs.steps.Goals.{Else-not-is_sound_run}
@@ -11,9 +9,6 @@ use Rattle.run_next.proofs.steps.Goals.{Else-not-is_sound_run}
 -- the run is sound
 ok-1 : (c : Else-not-is_sound_run) → sound_run chosen c.args.run ≡ true
 ok-1 c = sym c.is_sound_run.ensures ∙ c.if-not-is_sound_run.false
-
-pub returns-then-not-is_sound_run : goal.returns-then-not-is_sound_run
-returns-then-not-is_sound_run c = no_steps c.args.run (sym c.is_sound_run.ensures ∙ c.if-not-is_sound_run.true)
 
 pub most_rows-requires : goal.most_rows-requires
 most_rows-requires c = run-numbered c.args.run (ok-1 c)
@@ -52,12 +47,3 @@ steps_by-requires c =
         omega (arith, c.blocks-terms.ensures, s.1, count-least c.most_terms.result P.k),
       ),
     )
-
-pub returns : goal.returns
-returns c =
-    let R = c.args.run in
-    c.steps_by.ensures
-    ∙ steps-counted R c.blocks-rows.result c.blocks-columns.result c.blocks-terms.result (ok-1 (goal.at.returns c).Else-not-is_sound_run)
-    (c.blocks-rows.ensures ∙ ap (λ (x : ℕ). count x R.plan.m) c.most_rows.ensures)
-    (c.blocks-columns.ensures ∙ ap (λ (x : ℕ). count x R.plan.n) c.most_columns.ensures)
-    (c.blocks-terms.ensures ∙ ap (λ (x : ℕ). count x R.plan.k) c.most_terms.ensures)

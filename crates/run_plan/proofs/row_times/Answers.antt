@@ -1,4 +1,4 @@
-use Rattle.numbers.proofs.Kit.{◌∙◌, ◌/◌, ◌%◌, ◌≤◌, mul-le-mul, arith}
+use Rattle.numbers.proofs.Kit.{◌/◌, ◌%◌, ◌≤◌, mul-le-mul, arith}
 use Rattle.run_plan.proofs.PlanLaws.{row-halves}
 use Rattle.run_plan.proofs.row_times.Goals as goal
 
@@ -9,4 +9,4 @@ pub overflow_mul-low : goal.overflow_mul-low
 overflow_mul-low c = let h : c.args.stride % 0x1_0000_0000 ≤ 0xffff_ffff = omega arith in omega (arith, mul-le-mul c.requires h)
 
 pub returns : goal.returns
-returns c = c.wrapping_add_u64.ensures.value ∙ row-halves c.args.row c.args.stride
+returns c = row-halves c.args.row c.args.stride

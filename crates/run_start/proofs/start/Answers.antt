@@ -1,10 +1,9 @@
-use Rattle.numbers.proofs.Kit.{◌≡◌, refl, ap, ◌∙◌, true, not}
+use Rattle.numbers.proofs.Kit.{◌≡◌, refl, ap, true, not}
 use Rattle.machine.specs.Geometry.{Bench, bench_of, sealed}
 use Rattle.machine.specs.Faults.{sound_bench}
 use Rattle.machine.proofs.NoFault.{bench-sound, bench-seals}
 use Rattle.unit_ranges.specs.Ranges.{seals_in}
-use Rattle.run.specs.declared.RunStarted.{RunStarted}
-use Rattle.run.specs.Start.{planned, lying, separate, run_started_as}
+use Rattle.run.specs.Start.{planned, lying, separate}
 use Rattle.numbers.specs.Bounds.{most_elen}
 use Rattle.unit_settings.proofs.FaultLaws.{ready}
 use Rattle.unit_settings.proofs.TypeLaws.{ready-elen}
@@ -21,8 +20,7 @@ bench s = let a = s.args in bench_of a.m (seals_in a.seals.now) a.registers.now 
 pub returns-then-not-is_sound : goal.returns-then-not-is_sound
 returns-then-not-is_sound c =
     let a = c.args in
-    ap (λ (r : RunStarted). run_started_as r (bench (goal.at.returns-then-not-is_sound c).Start)) c.refused.ensures
-    ∙ started-by a.plan (bench (goal.at.returns-then-not-is_sound c).Start)
+    started-by a.plan (bench (goal.at.returns-then-not-is_sound c).Start)
     (test-failed c.is_sound.result (sound_bench (bench (goal.at.returns-then-not-is_sound c).Start)) c.is_sound.ensures (ap not c.if-not-is_sound.true)) refl refl refl
 
 -- the state is not at fault
@@ -31,8 +29,7 @@ fine c = test-passed c.is_sound.result (sound_bench (bench (goal.at.Else-not-is_
 
 pub returns-then-not-is_planned : goal.returns-then-not-is_planned
 returns-then-not-is_planned c =
-    ap (λ (r : RunStarted). run_started_as r (bench (goal.at.returns-then-not-is_planned c).Start)) c.refused-then-not-is_planned.ensures
-    ∙ started-by c.args.plan (bench (goal.at.returns-then-not-is_planned c).Start) (fine (goal.at.returns-then-not-is_planned c).Else-not-is_sound) (test-failed c.is_planned.result (planned c.args.m.elen c.args.plan) c.is_planned.ensures (ap not c.if-not-is_planned.true)) refl refl
+    started-by c.args.plan (bench (goal.at.returns-then-not-is_planned c).Start) (fine (goal.at.returns-then-not-is_planned c).Else-not-is_sound) (test-failed c.is_planned.result (planned c.args.m.elen c.args.plan) c.is_planned.ensures (ap not c.if-not-is_planned.true)) refl refl
 
 -- the plan's numbers are permitted
 plan-ok : (c : Else-not-is_planned) → let a = c.args in planned a.m.elen a.plan ≡ true
@@ -51,8 +48,7 @@ is_lying-requires c = plan-widest c
 
 pub returns-then-not-is_lying : goal.returns-then-not-is_lying
 returns-then-not-is_lying c =
-    ap (λ (r : RunStarted). run_started_as r (bench (goal.at.returns-then-not-is_lying c).Start)) c.refused-then-not-is_lying.ensures
-    ∙ started-by c.args.plan (bench (goal.at.returns-then-not-is_lying c).Start) (fine (goal.at.returns-then-not-is_lying c).Else-not-is_sound) (plan-ok (goal.at.returns-then-not-is_lying c).Else-not-is_planned)
+    started-by c.args.plan (bench (goal.at.returns-then-not-is_lying c).Start) (fine (goal.at.returns-then-not-is_lying c).Else-not-is_sound) (plan-ok (goal.at.returns-then-not-is_lying c).Else-not-is_planned)
     (test-failed c.is_lying.result (lying c.args.plan c.args.memory.now) c.is_lying.ensures (ap not c.if-not-is_lying.true)) refl
 
 -- the matrices lie in memory
@@ -71,8 +67,7 @@ is_separate-requires c =
 
 pub returns-then-not-is_separate : goal.returns-then-not-is_separate
 returns-then-not-is_separate c =
-    ap (λ (r : RunStarted). run_started_as r (bench (goal.at.returns-then-not-is_separate c).Start)) c.refused-then-not-is_separate.ensures
-    ∙ started-by c.args.plan (bench (goal.at.returns-then-not-is_separate c).Start) (fine (goal.at.returns-then-not-is_separate c).Else-not-is_sound) (plan-ok (goal.at.returns-then-not-is_separate c).Else-not-is_planned) (lies (goal.at.returns-then-not-is_separate c).Else-not-is_lying)
+    started-by c.args.plan (bench (goal.at.returns-then-not-is_separate c).Start) (fine (goal.at.returns-then-not-is_separate c).Else-not-is_sound) (plan-ok (goal.at.returns-then-not-is_separate c).Else-not-is_planned) (lies (goal.at.returns-then-not-is_separate c).Else-not-is_lying)
     (test-failed c.is_separate.result (separate (sealed (seals_in c.args.seals.now)) c.args.plan) c.is_separate.ensures (ap not c.if-not-is_separate.true))
 
 pub returns : goal.returns

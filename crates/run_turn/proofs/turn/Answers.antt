@@ -1,32 +1,10 @@
-use Rattle.numbers.proofs.Kit.{◌≡◌, sym, ◌∙◌, true}
+use Rattle.numbers.proofs.Kit.{sym, ◌∙◌}
 use Rattle.machine.specs.Geometry.{bench_of}
-use Rattle.machine.specs.Faults.{sound_bench}
-use Rattle.machine.proofs.NoFault.{bench-sound, bench-seals}
 use Rattle.unit_ranges.specs.Ranges.{seals_in}
 use Rattle.run_turn.proofs.TurnLaws.{turn-fault}
-use Rattle.run_turn.proofs.ProgressLaws.{turn-unsound, turn_at}
 use Rattle.run_turn.proofs.turn.Goals as goal
 
 pub returns-then-not-is_sound : goal.returns-then-not-is_sound
 returns-then-not-is_sound c =
     let a = c.args in
     turn-fault a.run (bench_of a.m (seals_in a.seals.now) a.registers.now a.marks.now a.memory.now) (sym c.is_sound.ensures ∙ c.if-not-is_sound.true)
-
-pub returns-then-not-is_sound_run : goal.returns-then-not-is_sound_run
-returns-then-not-is_sound_run c =
-    let a = c.args in
-    turn-unsound a.run (bench_of a.m (seals_in a.seals.now) a.registers.now a.marks.now a.memory.now) (sym c.is_sound_run.ensures ∙ c.if-not-is_sound_run.true)
-
-pub take_turn-moved-requires : goal.take_turn-moved-requires
-take_turn-moved-requires c =
-    let a = c.args in
-    let B = bench_of a.m (seals_in a.seals.now) a.registers.now a.marks.now a.memory.now in
-    let h : sound_bench B ≡ true = sym c.is_sound.ensures ∙ c.if-not-is_sound.false in
-    record {
-      marks_value = bench-sound B h;
-      run_value = sym c.is_sound_run.ensures ∙ c.if-not-is_sound_run.false;
-      seals_value = bench-seals B h;
-    }
-
-pub returns : goal.returns
-returns c = turn_at _ _ _ _ _ c.at_place-after.ensures c.take_turn-moved.ensures

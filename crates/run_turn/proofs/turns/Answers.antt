@@ -29,4 +29,4 @@ take_turns-progress-requires c =
     }
 
 pub returns : goal.returns
-returns c = at-end _ _ _ _ _ c.at_place-after.ensures c.take_turns-progress.ensures
+returns c = at-end _ _ _ _ _ c.at_place.ensures c.take_turns-progress.ensures

@@ -5,13 +5,14 @@ use Prim.Native.Nat.{ℕ}
 use native.Mathlib.Omega.{arith}
 use lib.Dec.{ltb}
 use Rattle.machine.specs.declared.Wrong.TheVariants.{Unlisted, Register}
-use Rattle.text_assembly.specs.declared.Texted.{Texted}
-use Rattle.text_assembly.specs.declared.Texted.TheVariants.{Done, NoLine}
+use Rattle.std.specs.Prelude.{Ok, Err}
+use Rattle.text_assembly.specs.declared.TextError.TheVariants.{NoLine}
+use Rattle.text_assembly.specs.Answers.{Texted}
 use Rattle.text_answers.proofs.ShapeLaws.{with-shape, without-shape, registers-as, accumulators-as}
 use Rattle.text_answers.proofs.number_answer.Goals as goal
 
 abbrev told : Bool → Texted
-told right = cond right Done (NoLine Register)
+told right = cond right (Ok tt) (Err (NoLine Register))
 
 pub returns-in-116 : goal.returns-in-116
 returns-in-116 c =
@@ -46,10 +47,10 @@ returns-in-101 c =
     ∙ ap told (c.are_accumulators.ensures ∙ accumulators-as c.low_field-low.result c.middle_field-middle.result a.word c.low_field-low.ensures c.middle_field-middle.ensures))
 
 pub returns-in-115 : goal.returns-in-115
-returns-in-115 c = let a = c.args in with-shape a.word a.number 115 (omega arith) c.in-115.is Done refl
+returns-in-115 c = let a = c.args in with-shape a.word a.number 115 (omega arith) c.in-115.is (Ok tt) refl
 
 pub returns-in-45 : goal.returns-in-45
-returns-in-45 c = let a = c.args in with-shape a.word a.number 45 (omega arith) c.in-45.is (NoLine Unlisted) refl
+returns-in-45 c = let a = c.args in with-shape a.word a.number 45 (omega arith) c.in-45.is (Err (NoLine Unlisted)) refl
 
 pub returns-in_default : goal.returns-in_default
 returns-in_default c = let a = c.args in without-shape a.word a.number (omega arith) (search rules)

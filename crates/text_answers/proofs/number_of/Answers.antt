@@ -12,4 +12,4 @@ returns c =
     let w = c.args.word in
     let high : w / 0x1000_0000 ≡ bits 31 28 w = omega arith in
     let middle : w / 0x200_0000 % 8 ≡ bits 27 25 w = omega arith in
-    c.entry_for_text.ensures ∙ ap₂ (λ (h m : ℕ). get_or (get_or (get_or numbers h []) m []) (bits 14 12 w) 0) high middle
+    c.entry.ensures ∙ ap₂ (λ (h m : ℕ). get_or (get_or (get_or numbers h []) m []) (bits 14 12 w) 0) high middle

@@ -11,8 +11,8 @@ returns-then-n-lt10 t c = wrote_as (sym (decimal-one c.args.n c.if-n-lt10.true))
 pub put_decimal-next-requires : goal.put_decimal-next-requires
 put_decimal-next-requires t c = (omega arith, omega (arith, length_more c.args.n c.if-n-lt10.false))
 
-pub put_byte-requires-2 : goal.put_byte-requires-2
-put_byte-requires-2 t c = omega (arith, length_more c.args.n c.if-n-lt10.false)
+pub put_byte-requires-else-n-lt10 : goal.put_byte-requires-else-n-lt10
+put_byte-requires-else-n-lt10 t c = omega (arith, length_more c.args.n c.if-n-lt10.false)
 
-pub returns : goal.returns
-returns t c = wrote-more (sym (decimal-more c.args.n c.if-n-lt10.false)) c.put_decimal-next.ensures c.put_byte-2.ensures
+pub returns-else-n-lt10 : goal.returns-else-n-lt10
+returns-else-n-lt10 t c = wrote-more (sym (decimal-more c.args.n c.if-n-lt10.false)) c.put_decimal-next.ensures c.put_byte-else-n-lt10.ensures

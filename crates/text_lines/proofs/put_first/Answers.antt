@@ -1,6 +1,6 @@
-use Rattle.numbers.proofs.Kit.{List, [], ◌∷◌, ◌++◌, ℕ, zero-add, arith}
+use Rattle.numbers.proofs.Kit.{List, [], ◌∷◌, ◌++◌, ℕ}
 use Rattle.text_lines.specs.Lines.{decimal, steps_word, first_line}
-use Rattle.text_lines.proofs.WriteLaws.{Ahead, ahead-start, ahead_step, ahead-end, ahead-room}
+use Rattle.text_lines.proofs.WriteLaws.{Ahead, ahead-start, ahead_step, ahead-end}
 use Rattle.text_lines.proofs.put_first.Goals as goal
 use Rattle.text_lines.proofs.put_first.Goals.{After-put_decimal-b, After-put_decimal-d, After-put_text-a, After-put_text-c, Start}
 
@@ -28,31 +28,6 @@ left3 c = ahead_step (left2 (goal.at.After-put_text-c c).After-put_decimal-b) c.
 
 left4 : (c : After-put_decimal-d) → Left c.before.before.before.before.before.before.before.before.before.before.before.before.before.before.before.before.before.before.before c.put_decimal-d.new.out c.put_decimal-d.result (10 ∷ [])
 left4 c = ahead_step (left3 (goal.at.After-put_decimal-d c).After-put_text-c) c.put_decimal-d.ensures
-
-pub put_decimal-b-requires : goal.put_decimal-b-requires
-put_decimal-b-requires c =
-    let w = c.before.before.before in
-    let s = w.before.before.before.before in
-    ahead-room (decimal s.args.answer) (rest2 (goal.at.put_decimal-b-requires c).Start) (left1 (goal.at.put_decimal-b-requires c).After-put_text-a) (rw zero-add s.requires)
-
-pub put_text-c-requires : goal.put_text-c-requires
-put_text-c-requires c =
-    let w = c.before.before.before.before in
-    let s = w.before.before.before.before.before.before.before.before in
-    ahead-room steps_word (rest3 (goal.at.put_text-c-requires c).Start) (left2 (goal.at.put_text-c-requires c).After-put_decimal-b) (rw zero-add s.requires)
-
-pub put_decimal-d-requires : goal.put_decimal-d-requires
-put_decimal-d-requires c =
-    let w = c.before.before.before in
-    let s = w.before.before.before.before.before.before.before.before.before.before.before.before.before in
-    ahead-room (decimal s.args.steps) (10 ∷ []) (left3 (goal.at.put_decimal-d-requires c).After-put_text-c) (rw zero-add s.requires)
-
-pub put_byte-requires : goal.put_byte-requires
-put_byte-requires c =
-    let w = c.before.before.before in
-    let s = w.before.before.before.before.before.before.before.before.before.before.before.before.before.before.before.before.before in
-    let g = ahead-room (10 ∷ []) [] (left4 (goal.at.put_byte-requires c).After-put_decimal-d) (rw zero-add s.requires) in
-    omega arith
 
 pub returns : goal.returns
 returns c = ahead-end (ahead_step (left4 (goal.at.returns c).After-put_decimal-d) c.put_byte.ensures)

@@ -1,11 +1,8 @@
-use Rattle.numbers.proofs.Kit.{◌≡◌, ◌-◌, ◌*◌, ◌≤◌}
+use Rattle.numbers.proofs.Kit.{◌*◌}
 use Rattle.text_lines.specs.Lines.{lines}
 use Rattle.text_lines.specs.Parts.{signed_all, rows_of}
 use Rattle.text_lines.proofs.WriteLaws.{Ahead, rest_lines}
 use Rattle.text_lines.proofs.put_lines.Given as goal
 
 abbrev pub invariant-loop-i : goal.invariant-loop-i
-invariant-loop-i l = (l.i ≤ l.rows) × (l.from ≡ l.i * l.cols) × Ahead l.initial.out l.initial.next l.out l.next (rest_lines l.q l.c l.rows l.cols l.i l.from) (lines (rows_of l.rows l.cols (signed_all l.q l.c)))
-
-abbrev pub decreases-loop-i : goal.decreases-loop-i
-decreases-loop-i l = l.rows - l.i
+invariant-loop-i l = Ahead l.initial.out l.initial.next l.out l.next (rest_lines l.q l.c l.rows l.cols l.i (l.i * l.cols)) (lines (rows_of l.rows l.cols (signed_all l.q l.c)))

@@ -1,8 +1,8 @@
 use Rattle.numbers.proofs.Kit.{◌≡◌, sym, ap, ap₂, ◌∙◌, List, [], ◌∷◌, ◌++◌, ℕ, ◌+◌, ◌*◌, ◌-◌, ◌≤◌, ◌<◌, arith, length, take, drop, length-drop, length-take}
-use Rattle.text_lines.proofs.WriteLaws.{Ahead, ahead-start, ahead_step, ahead-as, ahead-end}
+use Rattle.text_lines.proofs.WriteLaws.{Ahead, ahead_step, ahead-as}
 use Rattle.text_assembly.specs.Programs.{reply_to, lines_of, replies}
 use Rattle.text_read.specs.Parts.{feed_at}
-use Rattle.text_listings.proofs.RoomLaws.{replies-next, room_next, replies-none, line-is, feed-bound}
+use Rattle.text_listings.proofs.RoomLaws.{replies-next, room_next, line-is, feed-bound}
 use Rattle.text_listings.proofs.put_replies.Goals as goal
 use Rattle.text_listings.proofs.put_replies.Goals.{After-line_end-to}
 
@@ -36,7 +36,7 @@ space w =
     let l = w.loop-from in
     let a = w.args in
     let e = w.line_end-to.ensures in
-    let r = room_next a.back a.text.now l.from (omega arith) w.requires.text_len_bound.0 in
+    let r = room_next a.back a.text.now l.from (omega arith) w.requires.0 in
     let s : length (reply_to a.back (here w)) ≡ length (reply_to a.back (take (feed_at (drop l.from a.text.now)) (drop l.from a.text.now))) = ap (λ (x : List ℕ). length (reply_to a.back x)) (line-is a.text.now l.from w.line_end-to.result e) in
     omega (arith, l.invariant.0)
 
@@ -44,16 +44,7 @@ short : (w : After-line_end-to) → length (here w) ≤ 65536
 short w =
     let l = w.loop-from in
     let a = w.args in
-    omega (arith, length-take (w.line_end-to.result - l.from) (drop l.from a.text.now), length-drop l.from a.text.now, w.requires.text_len_bound.0)
-
-pub loop-from-init : goal.loop-from-init
-loop-from-init c = (omega (arith, c.requires.text_len_bound.0), ahead-start)
-
-pub slice_bounds-put_reply-count : goal.slice_bounds-put_reply-count
-slice_bounds-put_reply-count c = let b = in-text (goal.at.slice_bounds-put_reply-count c).After-line_end-to in omega arith
-
-pub slice_bounds-put_reply-start : goal.slice_bounds-put_reply-start
-slice_bounds-put_reply-start c = let b = in-text (goal.at.slice_bounds-put_reply-start c).After-line_end-to in omega arith
+    omega (arith, length-take (w.line_end-to.result - l.from) (drop l.from a.text.now), length-drop l.from a.text.now, w.requires.0)
 
 pub slice_bounds-put_reply-end : goal.slice_bounds-put_reply-end
 slice_bounds-put_reply-end c = let b = in-text (goal.at.slice_bounds-put_reply-end c).After-line_end-to in omega arith
@@ -63,22 +54,13 @@ put_reply-next-requires c =
     let d = (goal.at.put_reply-next-requires c).After-line_end-to in
     let p = c.requires in
     let s = space d in
-    record {
-      rows_value = p.rows_value;
-      line_len_bound = (short d, omega (arith, p.text_len_bound.1, c.loop-from.invariant.1.same));
-    }
+    (short d, omega (arith, p.1, c.loop-from.invariant.1.same))
 
 pub put_byte-at-requires : goal.put_byte-at-requires
 put_byte-at-requires c =
     let r = c.put_reply-next.ensures in
     let s = space (goal.at.put_byte-at-requires c).After-line_end-to in
-    omega (arith, r.to, r.same, c.requires.text_len_bound.1, c.loop-from.invariant.1.same)
-
-pub overflow_add-from : goal.overflow_add-from
-overflow_add-from c = let b = in-text (goal.at.overflow_add-from c).After-line_end-to in omega arith
-
-pub loop-from-smaller : goal.loop-from-smaller
-loop-from-smaller c = let b = in-text (goal.at.loop-from-smaller c).After-line_end-to in omega arith
+    omega (arith, r.to, r.same, c.requires.1, c.loop-from.invariant.1.same)
 
 pub loop-from-preserved : goal.loop-from-preserved
 loop-from-preserved c =
@@ -87,9 +69,3 @@ loop-from-preserved c =
     let b = c.put_byte-at.ensures in
     let s = space d in
     (omega (arith, r.to, b.to), ahead_step (ahead_step (left d) r) b)
-
-pub returns : goal.returns
-returns c =
-    let l = c.loop-from in
-    let a = c.args in
-    ahead-end (ahead-as (replies-none a.back a.text.now l.from (omega arith)) l.invariant.1)

@@ -1,12 +1,9 @@
-use Prim.Native.Nat.{◌≤◌, ◌-◌}
+use Prim.Native.Nat.{◌≤◌}
 use mathlib.Core.Path.{◌≡◌}
-use lib.ListN.{length, drop}
+use lib.ListN.{drop}
 use Rattle.text_assembly.specs.Reading.{digits_on}
 use Rattle.text_read.specs.Parts.{got_from}
 use Rattle.text_read.proofs.digits_on.Given as goal
 
 abbrev pub invariant-loop-i : goal.invariant-loop-i
-invariant-loop-i l = (l.i ≤ length l.line) × (l.n ≤ l.most) × (got_from l.from (digits_on l.most l.v (drop l.from l.line)) ≡ got_from l.i (digits_on l.most l.n (drop l.i l.line)))
-
-abbrev pub decreases-loop-i : goal.decreases-loop-i
-decreases-loop-i l = length l.line - l.i
+invariant-loop-i l = (l.value ≤ l.most) × (got_from l.from (digits_on l.most l.v (drop l.from l.line)) ≡ got_from l.i (digits_on l.most l.value (drop l.i l.line)))

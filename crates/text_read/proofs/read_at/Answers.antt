@@ -1,22 +1,20 @@
-use mathlib.Core.Path.{ap, ◌∙◌}
-use Prim.Native.Nat.{ℕ, ◌+◌, ◌*◌}
+use mathlib.Core.Path.{ap₂, ap, ◌∙◌}
+use mathlib.Core.List.{List}
+use Prim.Native.Nat.{ℕ}
 use native.Mathlib.Omega.{arith}
-use lib.ListN.{drop}
+use lib.ListN.{length}
+use Rattle.text_read.specs.Table.{row_at}
 use Rattle.text_read.specs.Parts.{as_line, row_from}
-use Rattle.text_read.proofs.RowLaws.{table-size, row-apt, reads_at}
+use Rattle.text_read.proofs.RowLaws.{row-apt, row_reads}
 use Rattle.text_read.proofs.read_at.Goals as goal
 
 pub read_row-requires : goal.read_row-requires
 read_row-requires c =
-    let a = c.args in
-    let p = c.requires in
-    let n = table-size a.rows.now p.0 in
-    (omega (arith, n, p.1), omega (arith, n), omega (arith, c.fixed_bits-base.ensures, (row-apt a.rows.now p.0 a.k p.1).small))
+    let r = row-apt c.args.k c.requires in
+    (omega (arith, r.short, ap length c.row_at-row.ensures.text), omega (arith, r.small, c.row_at-row.ensures.bits, c.from.ensures))
 
 pub returns : goal.returns
 returns c =
-    let a = c.args in
-    let p = c.requires in
+    let line = c.args.line.now in
     c.read_row.ensures
-    ∙ ap (λ (z : ℕ). as_line (row_from (drop (32 * a.k + 4) a.rows.now) a.line.now 0 128 z)) c.fixed_bits-base.ensures
-    ∙ ap as_line (reads_at a.rows.now p.0 a.k p.1 a.line.now)
+    ∙ ap as_line (ap₂ (λ (text : List ℕ) (bits : ℕ). row_from text line 0 128 bits) c.row_at-row.ensures.text (c.from.ensures ∙ c.row_at-row.ensures.bits) ∙ row_reads (row_at c.args.k) line)

@@ -1,85 +1,28 @@
--- The loop: each element of C has the product of the first `l` terms, once a block was taken.
-use Rattle.numbers.proofs.Kit.{◌≡◌, refl, ap, ◌∙◌, ◌⊎◌, inl, inr, ℕ, ◌+◌, ◌-◌, ◌*◌, ◌≤◌, ◌<◌, zero-mul, arith, length}
-use Rattle.numbers.specs.Tile.{put_tile}
+-- Each element of C has the products of the first `l` terms, once a block was taken.
+use Rattle.numbers.proofs.Kit.{inr, ◌+◌, arith, length}
 use Rattle.machine.specs.ArithmeticWords.{product}
-use Rattle.unit_sums.specs.Rows.{product_row}
-use Rattle.unit_arithmetic.proofs.BlockLaws.{Terms, terms-fit, term-next, product-joins}
+use Rattle.unit_arithmetic.proofs.BlockLaws.{terms-lie, terms-added, product-joins}
 use Rattle.unit_arithmetic.proofs.multiply_terms.Goals as goal
-use Rattle.unit_arithmetic.proofs.multiply_terms.Goals.{After-least-terms, After-slice_known-in-loop-l-1}
 
-pub loop-l-init : goal.loop-l-init
-loop-l-init c = let a = c.args in (omega arith, omega (arith, zero-mul a.width), omega (arith, zero-mul a.pitch), refl, inl (refl, refl))
-
-pub overflow_sub-k : goal.overflow_sub-k
-overflow_sub-k c = c.loop-l.invariant.0
-
--- a block more
-more : (c : After-least-terms) → let a = c.args in let l = c.loop-l in
-    Terms a.a a.b a.c a.pitch a.width a.m l.l c.least-terms.result × (l.l + c.least-terms.result ≤ a.k) × (c.least-terms.result ≤ 16)
-more c =
+pub multiply_rows-requires-clause-lies_in : goal.multiply_rows-requires-clause-lies_in
+multiply_rows-requires-clause-lies_in c =
     let a = c.args in
-    let l = c.loop-l in
-    let e = c.least-terms.ensures in
-    let i = l.invariant.0 in (
-      terms-fit a.a a.b a.c a.pitch a.width a.m a.k l.l c.least-terms.result (omega arith) c.requires.width_bound.1.0 c.requires.width_bound_2.0 c.requires.width_bound_2.1.0,
-      omega arith,
-      omega arith,
-    )
-
-pub multiply_rows-requires : goal.multiply_rows-requires
-multiply_rows-requires c =
-    let i = c.loop-l.invariant in
-    let f = more (goal.at.multiply_rows-requires c).After-least-terms in
-    let t = f.0 in
-    record {
-      n_le_most_columns = (c.requires.n_le_most_columns.0, (f.2, c.requires.n_le_most_columns.1.1));
-      width = c.requires.width;
-      width_bound = (c.requires.width_bound.0, (t.narrow, c.requires.width_bound.1.1));
-      width_bound_2 = (omega (arith, t.from-ends, i.1), (omega (arith, t.row_ends, i.2), (omega (arith, c.requires.width_bound_2.1.1.0, i.3), omega (arith, c.requires.width_bound_2.1.1.1, i.3))));
-    }
-
-pub overflow_add-l : goal.overflow_add-l
-overflow_add-l c = let f = more (goal.at.overflow_add-l c).After-least-terms in omega (arith, f.1)
-
--- what a block leaves
-left : (c : After-slice_known-in-loop-l-1) →
-    let a = c.args in
-    let l = c.loop-l.l + c.least-terms.result in
-    c.multiply_rows.new.s ≡ put_tile (λ i. a.c + i * (4 * a.pitch)) a.m a.n a.wide (λ i. product_row a.s.now a.wide a.width a.pitch l (a.a + i * a.pitch) a.b (a.c + i * (4 * a.pitch))) a.s.now
-left c =
-    let a = c.args in
-    let l = c.loop-l in
-    let w = c.multiply_rows in
-    let t = (more (goal.at.After-slice_known-in-loop-l-1 c).After-least-terms).0 in
-    term-next (product a.wide a.width) a.wide a.width a.pitch (4 * a.pitch) a.n a.a a.b a.c a.m a.s.now
-    (product-joins a.wide a.width) c.requires.width_bound.0 c.requires.width_bound.1.1 c.requires.width_bound_2.1.1.1
-    l.l c.least-terms.result l.from l.row l.s w.new.s (omega (arith, t.from-ends)) (omega (arith, t.row_ends)) l.invariant.1 l.invariant.2 l.invariant.4 w.ensures
-
-pub returns-then-l-k : goal.returns-then-l-k
-returns-then-l-k c =
-    let a = c.args in
-    let f = more (goal.at.returns-then-l-k c).After-least-terms in
-    let e : c.loop-l.l + c.least-terms.result ≡ a.k = omega (arith, f.1, c.if-l-k.true) in
-    left (goal.at.returns-then-l-k c).After-slice_known-in-loop-l-1
-    ∙ ap (λ (t : ℕ). put_tile (λ i. a.c + i * (4 * a.pitch)) a.m a.n a.wide (λ i. product_row a.s.now a.wide a.width a.pitch t (a.a + i * a.pitch) a.b (a.c + i * (4 * a.pitch))) a.s.now) e
-
-pub overflow_mul-from : goal.overflow_mul-from
-overflow_mul-from c = let t = (more (goal.at.overflow_mul-from c).After-least-terms).0 in omega (arith, t.narrow, c.requires.n_le_most_columns)
-
-pub overflow_add-from : goal.overflow_add-from
-overflow_add-from c = let t = (more (goal.at.overflow_add-from c).After-least-terms).0 in omega (arith, t, c.requires.n_le_most_columns, c.requires.width_bound_2, c.loop-l.invariant.1)
-
-pub overflow_mul-row : goal.overflow_mul-row
-overflow_mul-row c = let t = (more (goal.at.overflow_mul-row c).After-least-terms).0 in omega (arith, t.row_small, c.requires.width_bound_2)
-
-pub overflow_add-row : goal.overflow_add-row
-overflow_add-row c = let t = (more (goal.at.overflow_add-row c).After-least-terms).0 in omega (arith, t.row_ends, c.requires.width_bound_2, c.loop-l.invariant.2)
-
-pub loop-l-smaller : goal.loop-l-smaller
-loop-l-smaller c = let e = c.least-terms.ensures in let i = c.loop-l.invariant.0 in omega (arith, c.if-l-k.false)
+    rw (c.terms.ensures, c.loop-l.auto.s) (terms-lie a.p a.width a.wide (length a.s.now) c.loop-l.l c.min-terms.result c.requires.lies_in (omega arith))
 
 pub loop-l-preserved : goal.loop-l-preserved
 loop-l-preserved c =
-    let f = more (goal.at.loop-l-preserved c).After-least-terms in
+    let a = c.args in
     let l = c.loop-l in
-    (f.1, omega (arith, l.invariant.1), omega (arith, l.invariant.2), c.multiply_rows.auto.s ∙ l.invariant.3, inr (left (goal.at.loop-l-preserved c).After-slice_known-in-loop-l-1))
+    let w = c.multiply_rows in (
+      omega arith,
+      inr (terms-added (product a.wide a.width) a.width a.wide (product-joins a.wide a.width) a.p a.s.now l.s w.new.s c.terms.result c.requires.lies_in
+          l.l c.min-terms.result (l.l + 16) (omega arith) (omega arith) l.invariant.1 c.terms.ensures w.ensures),
+    )
+
+pub returns-2 : goal.returns-2
+returns-2 c =
+    let a = c.args in
+    let l = c.loop-l in
+    let w = c.multiply_rows in
+    terms-added (product a.wide a.width) a.width a.wide (product-joins a.wide a.width) a.p a.s.now l.s w.new.s c.terms.result c.requires.lies_in
+    l.l c.min-terms.result a.p.k (omega arith) (omega arith) l.invariant.1 c.terms.ensures w.ensures

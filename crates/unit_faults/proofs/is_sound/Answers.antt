@@ -3,14 +3,13 @@ use mathlib.Core.Bool.{Bool, true, false, ◌&&◌}
 use mathlib.Core.List.{List}
 use Prim.Native.Nat.{ℕ, ◌*◌}
 use native.Mathlib.Omega.{arith}
-use borrow.Author.Tests.{eq-eqb, ne_eqb, not-true, not-false}
+use borrow.Author.Tests.{eq-eqb, ne_eqb}
 use lib.ListN.{length}
 use Rattle.machine.specs.Faults.{sound, seals_fit}
 use Rattle.unit_ranges.specs.Ranges.{seals_in}
 use Rattle.machine.proofs.StepLaws.{permitted-bounds}
 use Rattle.unit_settings.specs.Parts.{numbers_sound}
 use Rattle.unit_settings.proofs.FaultLaws.{sound-by, numbers-permitted}
-use borrow.Author.Rules.{rules}
 use Rattle.unit_faults.proofs.is_sound.Goals as goal
 use Rattle.unit_faults.proofs.is_sound.Goals.{After-marks_sound, Else-not-numbers_sound}
 

@@ -3,14 +3,13 @@ use mathlib.Core.Bool.{true, false}
 use Prim.Native.Nat.{◌/◌, min}
 use native.Mathlib.Omega.{arith}
 use lib.Dec.{eqb}
-use borrow.Author.Tests.{le-leb, lt-leb, not-true, not-false}
+use borrow.Author.Tests.{le-leb, lt-leb}
 use Rattle.machine.specs.Geometry.{permitted}
 use Rattle.machine.specs.Setting.{new_type}
 use Rattle.machine.specs.Starting.{is_rule}
 use Rattle.machine.proofs.StepLaws.{permitted-bounds, permitted-elen}
 use Rattle.machine.proofs.StartLaws.{and-truth}
 use Rattle.unit_settings.proofs.FaultLaws.{numbers-by}
-use borrow.Author.Rules.{rules}
 use Rattle.unit_faults.proofs.numbers_sound.Goals as goal
 use Rattle.unit_faults.proofs.numbers_sound.Goals.{Else-not-permitted_lengths, Else-not-type_arises}
 
@@ -45,17 +44,17 @@ returns-then-m-rows c =
     let m = c.args.m in
     numbers-by m true true false _ _ _ (ok-1 (goal.at.returns-then-m-rows c).Else-not-permitted_lengths) (ok-2 (goal.at.returns-then-m-rows c).Else-not-type_arises) (lt-leb m.tile_m (m.mlen / m.rlen) c.if-m-rows.true) refl refl refl
 
-pub returns-then-m-smaller : goal.returns-then-m-smaller
-returns-then-m-smaller c =
+pub returns-then-m-min : goal.returns-then-m-min
+returns-then-m-min c =
     let m = c.args.m in
-    numbers-by m true true true false _ _ (ok-1 (goal.at.returns-then-m-smaller c).Else-not-permitted_lengths) (ok-2 (goal.at.returns-then-m-smaller c).Else-not-type_arises) (le-leb m.tile_m (m.mlen / m.rlen) c.if-m-rows.false)
-    (lt-leb m.tile_k (min (m.mlen / m.rlen) (m.rlen / 8)) (omega (arith, c.smaller.ensures, c.if-m-smaller.true))) refl refl
+    numbers-by m true true true false _ _ (ok-1 (goal.at.returns-then-m-min c).Else-not-permitted_lengths) (ok-2 (goal.at.returns-then-m-min c).Else-not-type_arises) (le-leb m.tile_m (m.mlen / m.rlen) c.if-m-rows.false)
+    (lt-leb m.tile_k (min (m.mlen / m.rlen) (m.rlen / 8)) (omega (arith, c.min.ensures, c.if-m-min.true))) refl refl
 
 pub returns-then-m-pitch : goal.returns-then-m-pitch
 returns-then-m-pitch c =
     let m = c.args.m in
     numbers-by m true true true true false _ (ok-1 (goal.at.returns-then-m-pitch c).Else-not-permitted_lengths) (ok-2 (goal.at.returns-then-m-pitch c).Else-not-type_arises) (le-leb m.tile_m (m.mlen / m.rlen) c.if-m-rows.false)
-    (le-leb m.tile_k (min (m.mlen / m.rlen) (m.rlen / 8)) (omega (arith, c.smaller.ensures, c.if-m-smaller.false)))
+    (le-leb m.tile_k (min (m.mlen / m.rlen) (m.rlen / 8)) (omega (arith, c.min.ensures, c.if-m-min.false)))
     (lt-leb m.tile_n (m.rlen / 8) c.if-m-pitch.true) refl
 
 pub returns : goal.returns
@@ -63,5 +62,5 @@ returns c =
     let m = c.args.m in
     c.is_rule.ensures ∙ and-truth (is_rule m.rule)
     ∙ numbers-by m true true true true true (is_rule m.rule) (ok-1 (goal.at.returns c).Else-not-permitted_lengths) (ok-2 (goal.at.returns c).Else-not-type_arises) (le-leb m.tile_m (m.mlen / m.rlen) c.if-m-rows.false)
-    (le-leb m.tile_k (min (m.mlen / m.rlen) (m.rlen / 8)) (omega (arith, c.smaller.ensures, c.if-m-smaller.false)))
+    (le-leb m.tile_k (min (m.mlen / m.rlen) (m.rlen / 8)) (omega (arith, c.min.ensures, c.if-m-min.false)))
     (le-leb m.tile_n (m.rlen / 8) c.if-m-pitch.false) refl

@@ -1,12 +1,10 @@
-use Rattle.numbers.proofs.Kit.{ap, ◌∙◌, ◌-◌, arith}
-use Rattle.numbers.specs.Binary32.{value_of}
-use Rattle.unit_sums.proofs.LaneLaws.{Fetched, fetch-none, fetch-next}
+-- The first `j` values are fetched, and those before `to` are as they were.
+use Rattle.numbers.proofs.Kit.{◌≡◌, ℕ, ◌+◌, ◌*◌, ◌<◌, get_or}
+use Rattle.std.specs.Float.{nan}
 use Rattle.unit_floats.specs.Rows.{float_at}
-use lib.Ieee.{nan}
 use Rattle.unit_floats.proofs.fetch_row.Given as goal
 
 abbrev pub invariant-loop-j : goal.invariant-loop-j
-invariant-loop-j l = Fetched nan (float_at l.s) 4 l.initial.d l.to l.at l.n l.d l.j l.from
-
-abbrev pub decreases-loop-j : goal.decreases-loop-j
-decreases-loop-j l = l.n - l.j
+invariant-loop-j l =
+    ((q : ℕ) → q < l.j → get_or l.d (l.to + q) nan ≡ float_at l.s (l.at + q * 4))
+    × ((i : ℕ) → i < l.to → get_or l.d i nan ≡ get_or l.initial.d i nan)

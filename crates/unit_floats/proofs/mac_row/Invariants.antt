@@ -1,12 +1,10 @@
-use Rattle.numbers.proofs.Kit.{◌-◌, arith}
-use Rattle.numbers.specs.Bounds.{most_floats}
+-- The first `j` sums have their product, and the others are as they were.
+use Rattle.numbers.proofs.Kit.{◌≡◌, ℕ, ◌+◌, ◌<◌, ◌≤◌, get_or}
+use Rattle.std.specs.Float.{nan}
 use Rattle.numbers.specs.Binary32.{multiply_add}
-use Rattle.unit_sums.proofs.LaneLaws.{Added, add_none, add-next}
-use lib.Ieee.{nan}
 use Rattle.unit_floats.proofs.mac_row.Given as goal
 
 abbrev pub invariant-loop-j : goal.invariant-loop-j
-invariant-loop-j l = Added nan multiply_add most_floats l.initial.sums l.d l.at l.x l.sums l.j
-
-abbrev pub decreases-loop-j : goal.decreases-loop-j
-decreases-loop-j l = most_floats - l.j
+invariant-loop-j l =
+    ((q : ℕ) → q < l.j → get_or l.sums q nan ≡ multiply_add (get_or l.initial.sums q nan) l.x (get_or l.d (l.at + q) nan))
+    × ((q : ℕ) → l.j ≤ q → get_or l.sums q nan ≡ get_or l.initial.sums q nan)

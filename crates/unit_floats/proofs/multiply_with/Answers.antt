@@ -1,92 +1,45 @@
--- The loop: the first `i` rows of C are those of the product, and every element is read as at entry.
-use Rattle.numbers.proofs.Kit.{◌≡◌, refl, sym, ap, ◌∙◌, ℕ, ◌+◌, ◌-◌, ◌*◌, ◌≤◌, zero-mul, arith, length}
+-- The first `i` rows of C are those of the product, and every element is read as at entry.
+use Rattle.numbers.proofs.Kit.{refl, sym, ap, ◌∙◌, ◌+◌, ◌-◌, ◌*◌, ◌≤◌, arith, length}
 use Rattle.numbers.specs.Tile.{put_tile}
 use Rattle.numbers.specs.Binary32.{value_of, float_product}
 use Rattle.numbers.proofs.Binary32Laws.{product-cong}
-use Rattle.unit_sums.proofs.TurnLaws.{same-b, rule-rows, rows_left, rows_taken}
-use Rattle.unit_floats.specs.Rows.{float_row}
+use Rattle.unit_sums.proofs.TurnLaws.{same-b, rule-rows}
+use Rattle.unit_arithmetic.specs.declared.product.Product.{Product}
+use Rattle.unit_arithmetic.proofs.BlockLaws.{rows-lie}
+use Rattle.unit_floats.specs.Rows.{float_row, floats_added, first_rows}
 use Rattle.unit_floats.proofs.multiply_with.Goals as goal
-use Rattle.unit_floats.proofs.multiply_with.Goals.{After-slice_known-in-loop-i-1}
 
 pub loop-i-init : goal.loop-i-init
 unfolding put_tile
-loop-i-init c = let a = c.args in (omega arith, omega (arith, zero-mul a.pitch), omega (arith, zero-mul (4 * a.pitch)), refl, refl, refl)
+loop-i-init c = (omega arith, refl)
 
-pub multiply_next-rows-requires : goal.multiply_next-rows-requires
-multiply_next-rows-requires c =
-    let l = c.loop-i in
+pub multiply_next-i-requires-clause-lies_in : goal.multiply_next-i-requires-clause-lies_in
+multiply_next-i-requires-clause-lies_in c =
     let a = c.args in
-    let f = rows_left l.i a.m a.pitch l.invariant.0 in
-    let g = rows_left l.i a.m (4 * a.pitch) l.invariant.0 in
-    let t = c.fetch_tile in
-    record {
-      m_nonzero = (omega (arith, c.loop-i-test), (c.requires.n_le_most_floats.0, omega (arith, c.requires.n_le_most_floats.1.0, t.auto.d)));
-      k_in_bounds = (omega (arith, c.requires.n_le_most_floats, c.requires.n_bound, c.requires.k_bound, f, l.invariant.1, l.invariant.4), omega (arith, c.requires.n_le_most_floats, c.requires.n_bound, c.requires.k_bound, g, l.invariant.2, l.invariant.4));
-      by_index = λ r j lr lj. t.ensures r j lr lj
-          ∙ ap value_of (sym (same-b 4 4 a.pitch (4 * a.pitch) a.k a.n a.a a.b a.c a.m a.s.now
-          c.requires.n_bound.0 (omega (arith, c.requires.n_le_most_floats, c.requires.n_bound, c.requires.k_bound)) c.requires.k_bound.0 c.requires.k_bound.1.0
-          (λ i. float_row a.s.now a.pitch a.k (a.a + i * a.pitch) a.b (a.c + i * (4 * a.pitch)))
-          l.i l.s l.invariant.5 r j lr lj));
-    }
+    rw (c.rows.ensures, c.loop-i.auto.s) (rows-lie a.p 4 4 (length a.s.now) c.loop-i.i (a.p.m - c.loop-i.i) c.requires.lies_in (omega arith) (omega arith))
 
--- after a turn, the rows that it took
-taken : (c : After-slice_known-in-loop-i-1) →
+pub multiply_next-i-requires-clause-fetched : goal.multiply_next-i-requires-clause-fetched
+multiply_next-i-requires-clause-fetched c =
     let a = c.args in
+    let p = a.p in
     let l = c.loop-i in
-    let r = c.multiply_next-rows.result in
-    (l.i + r ≤ a.m) × (l.i * a.pitch + r * a.pitch ≤ a.m * a.pitch) × (l.i * (4 * a.pitch) + r * (4 * a.pitch) ≤ a.m * (4 * a.pitch))
-taken c =
-    let a = c.args in
-    let l = c.loop-i in
-    let w = c.multiply_next-rows in
-    let h = w.ensures.result_nonzero.1 in
-    (omega (arith, h, l.invariant.0), rows_taken l.i w.result a.m a.pitch l.invariant.0 h, rows_taken l.i w.result a.m (4 * a.pitch) l.invariant.0 h)
+    let h = c.requires.lies_in in
+    rw c.rows.ensures
+    (λ r j lr lj. c.fetch_tile.ensures r j lr lj
+    ∙ ap value_of (sym (same-b 4 4 p.pitch (4 * p.pitch) p.k p.n p.a p.b p.c p.m a.s.now h.b-row h.c-row h.a-before h.b-before
+    (λ i. float_row a.s.now p.pitch p.k (p.a + i * p.pitch) p.b (p.c + i * (4 * p.pitch))) l.i l.s l.invariant.1 r j lr lj)))
 
 pub loop-i-preserved : goal.loop-i-preserved
 loop-i-preserved c =
-    let l = c.loop-i in
     let a = c.args in
-    let w = c.multiply_next-rows in (
-      (taken c).0,
-      omega (arith, l.invariant.1),
-      omega (arith, l.invariant.2, l.invariant.3, ap (λ (q : ℕ). w.result * q) l.invariant.3),
-      l.invariant.3,
-      w.auto.s ∙ l.invariant.4,
-      rule-rows 4 4 a.pitch (4 * a.pitch) a.k a.n a.a a.b a.c a.m a.s.now
-          c.requires.n_bound.0 (omega (arith, c.requires.n_le_most_floats, c.requires.n_bound, c.requires.k_bound)) c.requires.k_bound.0 c.requires.k_bound.1.0
-          (float_product a.k) (λ old x y u v. product-cong old a.k x y u v)
-          l.i w.result l.s (taken c).0 l.invariant.5 l.from l.to w.new.s l.invariant.1 l.invariant.2 w.ensures.s_after,
+    let p = a.p in
+    let l = c.loop-i in
+    let w = c.multiply_next-i in
+    let h = c.requires.lies_in in
+    let all : l.i + w.result ≤ p.m = omega (arith, w.ensures.result_nonzero.1, ap (λ (q : Product). q.m) c.rows.ensures, l.invariant.0) in (
+      all,
+      rule-rows 4 4 p.pitch (4 * p.pitch) p.k p.n p.a p.b p.c p.m a.s.now h.b-row h.c-row h.a-before h.b-before
+          (float_product p.k) (λ old x y u v. product-cong old p.k x y u v)
+          l.i w.result l.s all l.invariant.1 (p.a + l.i * p.pitch) (p.c + l.i * (4 * p.pitch)) w.new.s refl refl
+          (w.ensures.s_after ∙ ap (λ (q : Product). floats_added (first_rows q w.result) l.s) c.rows.ensures),
     )
-
-pub returns : goal.returns
-returns c =
-    let l = c.loop-i in
-    let a = c.args in
-    let e : l.i ≡ a.m = omega arith in
-    l.invariant.5
-    ∙ ap (λ (t : ℕ). put_tile (λ i. a.c + i * (4 * a.pitch)) t a.n 4 (λ i. float_row a.s.now a.pitch a.k (a.a + i * a.pitch) a.b (a.c + i * (4 * a.pitch))) a.s.now) e
-
-pub fetch_tile-requires : goal.fetch_tile-requires
-fetch_tile-requires c =
-    record {
-      n_le_most_floats = (c.requires.n_le_most_floats.0, c.requires.n_le_most_floats.1.0);
-      n_bound = (c.requires.n_bound.0, omega (arith, c.requires.n_le_most_floats, c.requires.n_bound, c.requires.k_bound));
-    }
-
-pub overflow_mul-from : goal.overflow_mul-from
-overflow_mul-from c = let t = taken c in omega (arith, t, c.requires.n_le_most_floats, c.requires.n_bound, c.requires.k_bound)
-
-pub overflow_add-from : goal.overflow_add-from
-overflow_add-from c = let t = taken c in omega (arith, t, c.requires.n_le_most_floats, c.requires.n_bound, c.requires.k_bound, c.loop-i.invariant.1)
-
-pub overflow_mul-to : goal.overflow_mul-to
-overflow_mul-to c = let t = taken c in omega (arith, t, c.requires.n_le_most_floats, c.requires.n_bound, c.requires.k_bound, ap (λ (q : ℕ). c.multiply_next-rows.result * q) c.loop-i.invariant.3)
-
-pub overflow_add-to : goal.overflow_add-to
-overflow_add-to c = let t = taken c in omega (arith, t, c.requires.n_le_most_floats, c.requires.n_bound, c.requires.k_bound, c.loop-i.invariant.2, ap (λ (q : ℕ). c.multiply_next-rows.result * q) c.loop-i.invariant.3)
-
-pub overflow_add-i : goal.overflow_add-i
-overflow_add-i c = let t = taken c in omega (arith, t)
-
-pub loop-i-smaller : goal.loop-i-smaller
-loop-i-smaller c = let t = taken c in omega (arith, t, c.multiply_next-rows.ensures.result_nonzero.0)

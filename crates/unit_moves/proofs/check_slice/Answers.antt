@@ -1,4 +1,4 @@
-use Rattle.numbers.proofs.Kit.{◌≡◌, sym, ap, ap₂, ◌∙◌, true, false, [], ℕ, ◌+◌, ◌*◌, leb, not-true, not-false}
+use Rattle.numbers.proofs.Kit.{◌≡◌, sym, ap, ap₂, ◌∙◌, true, false, [], ℕ, ◌+◌, ◌*◌, leb}
 use Rattle.machine.specs.declared.Dimension.TheVariants.{DimensionM, DimensionN}
 use Rattle.machine.specs.Geometry.{state_of}
 use Rattle.machine.specs.Vectors.{vector_bytes}

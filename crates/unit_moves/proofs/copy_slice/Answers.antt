@@ -7,10 +7,10 @@ use Rattle.unit_moves.proofs.copy_slice.Goals.{Start}
 
 -- the rows lie in src
 rows_in : (s : Start) (f : Form) → s.args.form ≡ f
-    → let a = s.args in RowsIn a.from a.apart (memory_rows f a.rows a.cols) (memory_cols f a.rows a.cols * a.w) (length a.src.now)
+    → let a = s.args in RowsIn a.from.start a.from.pitch (memory_rows f a.to.rows a.to.columns) (memory_cols f a.to.rows a.to.columns * a.w) (length a.src.now)
 rows_in s f e =
     let a = s.args in
-    subst (λ (f : Form). RowsIn a.from a.apart (memory_rows f a.rows a.cols) (memory_cols f a.rows a.cols * a.w) (length a.src.now)) e s.requires.rows_in_2
+    subst (λ (f : Form). RowsIn a.from.start a.from.pitch (memory_rows f a.to.rows a.to.columns) (memory_cols f a.to.rows a.to.columns * a.w) (length a.src.now)) e s.requires.rows_in_2
 
 pub copy_rows-requires : goal.copy_rows-requires
 copy_rows-requires c =

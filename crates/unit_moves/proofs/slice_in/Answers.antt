@@ -1,46 +1,43 @@
-use Rattle.numbers.proofs.Kit.{◌≡◌, refl, sym, ap, ◌∙◌, subst, true, [], ◌*◌, ◌^◌, ◌≤◌, ◌<◌, arith, length, not-true, not-false}
-use Rattle.machine.specs.Answers.{verdict, is_done}
+use Rattle.numbers.proofs.Kit.{refl, sym, ap, subst, [], ◌*◌, ◌^◌, ◌≤◌, ◌<◌, arith, length, Err}
+use Rattle.std.proofs.lemmas.Result.{err_from_is_err_and}
+use Rattle.machine.proofs.CodeLaws.{refused-not-done}
+use Rattle.machine.specs.Answers.{is_done}
 use Rattle.machine.specs.Geometry.{state_of}
 use Rattle.machine.specs.Vectors.{vector_bytes}
 use Rattle.machine.specs.Setting.{sew}
 use Rattle.machine.specs.Operation.{memory_rows, memory_cols}
-use Rattle.machine.specs.MoveWords.{line_of, slice_fits}
-use Rattle.machine.proofs.CodeLaws.{only-done}
+use Rattle.machine.specs.MoveWords.{line_of}
 use Rattle.unit_tile.specs.Checks.{RowsIn}
 use Rattle.unit_geometry.specs.declared.Placed.{Placed}
-use Rattle.unit_settings.specs.Parts.{ours}
 use Rattle.unit_settings.proofs.FaultLaws.{ready}
 use Rattle.unit_moves.proofs.SliceLaws.{legal, width, small, corner-in, rows_in, marks-in, columns-in, group-in, turned-in}
 use Rattle.unit_moves.proofs.MoveLaws.{in-refused, in-done}
 use Rattle.unit_moves.proofs.slice_in.Goals as goal
-use Rattle.unit_moves.proofs.slice_in.Goals.{After-slice_of-p, Else-not-is_done}
+use Rattle.unit_moves.proofs.slice_in.Goals.{After-slice_of-p}
 
-pub check_slice-fitting-requires : goal.check_slice-fitting-requires
-check_slice-fitting-requires c = ready c.args.m c.args.registers.now c.args.marks.now c.requires.marks_value
+pub check_slice-requires : goal.check_slice-requires
+check_slice-requires c = ready c.args.m c.args.registers.now c.args.marks.now c.requires.marks_value
 
-pub returns-then-not-is_done : goal.returns-then-not-is_done
-returns-then-not-is_done c =
+pub returns-in_err-check_slice : goal.returns-in_err-check_slice
+returns-in_err-check_slice c =
     let a = c.args in
-    in-refused a.m a.registers.now a.marks.now a.form a.md a.vs1 a.first a.count a.vectors.now c.check_slice-fitting.result c.check_slice-fitting.ensures
-    (sym c.is_done.ensures ∙ c.if-not-is_done.true)
-
--- the checks of answers 2 and 4 passed
-fits : (c : Else-not-is_done) → let a = c.args in
-    is_done (verdict (slice_fits (ours a.m) a.form a.first a.count (state_of a.m [] []))) ≡ true
-fits c = sym (ap is_done c.check_slice-fitting.ensures) ∙ sym c.is_done.ensures ∙ c.if-not-is_done.false
+    let p = err_from_is_err_and c.from_residual.result c.from_residual.ensures.1 in
+    rw (p.1, p.2)
+    (in-refused a.m a.registers.now a.marks.now a.form a.md a.vs1 a.first a.count a.vectors.now (Err c.in_err-check_slice.field-0.0) c.in_err-check_slice.ensures
+    (refused-not-done c.in_err-check_slice.field-0.0))
 
 pub sew_bytes-w-requires : goal.sew_bytes-w-requires
 sew_bytes-w-requires c =
     let a = c.args in
-    legal a.m a.registers.now a.marks.now c.requires.marks_value a.form a.md a.first a.count c.requires.md_bound.0 (fits c) (sew a.m.mtype) refl
+    legal a.m a.registers.now a.marks.now c.requires.marks_value a.form a.md a.first a.count c.requires.md_bound.0 (sym (ap is_done c.in_ok-check_slice.ensures)) (sew a.m.mtype) refl
 
 pub slice_of-p-requires : goal.slice_of-p-requires
 slice_of-p-requires c =
     let a = c.args in
     let w = c.sew_bytes-w.result in
     let ew = c.sew_bytes-w.ensures.value in
-    let i = corner-in a.m a.registers.now a.marks.now c.requires.marks_value a.form a.md a.first a.count c.requires.md_bound.0 (fits (goal.at.slice_of-p-requires c).Else-not-is_done) w ew in
-    let b = small a.m a.registers.now a.marks.now c.requires.marks_value a.form a.md a.first a.count c.requires.md_bound.0 (fits (goal.at.slice_of-p-requires c).Else-not-is_done) w ew in
+    let i = corner-in a.m a.registers.now a.marks.now c.requires.marks_value a.form a.md a.first a.count c.requires.md_bound.0 (sym (ap is_done c.in_ok-check_slice.ensures)) w ew in
+    let b = small a.m a.registers.now a.marks.now c.requires.marks_value a.form a.md a.first a.count c.requires.md_bound.0 (sym (ap is_done c.in_ok-check_slice.ensures)) w ew in
     record {
       ready = ready a.m a.registers.now a.marks.now c.requires.marks_value;
       r_bound = c.requires.md_bound.0;
@@ -56,10 +53,10 @@ lies c =
     let a = c.args in
     let w = c.sew_bytes-w.result in
     let ew = c.sew_bytes-w.ensures.value in
-    let r = rows_in a.m a.registers.now a.marks.now c.requires.marks_value a.form a.md a.first a.count c.requires.md_bound.0 (fits (goal.at.After-slice_of-p c).Else-not-is_done) w ew in
-    let k = marks-in a.m a.registers.now a.marks.now c.requires.marks_value a.form a.md a.first a.count c.requires.md_bound.0 (fits (goal.at.After-slice_of-p c).Else-not-is_done) w ew in
-    let q = columns-in a.m a.registers.now a.marks.now c.requires.marks_value a.form a.md a.first a.count c.requires.md_bound.0 (fits (goal.at.After-slice_of-p c).Else-not-is_done) w ew in
-    let b = small a.m a.registers.now a.marks.now c.requires.marks_value a.form a.md a.first a.count c.requires.md_bound.0 (fits (goal.at.After-slice_of-p c).Else-not-is_done) w ew in
+    let r = rows_in a.m a.registers.now a.marks.now c.requires.marks_value a.form a.md a.first a.count c.requires.md_bound.0 (sym (ap is_done c.in_ok-check_slice.ensures)) w ew in
+    let k = marks-in a.m a.registers.now a.marks.now c.requires.marks_value a.form a.md a.first a.count c.requires.md_bound.0 (sym (ap is_done c.in_ok-check_slice.ensures)) w ew in
+    let q = columns-in a.m a.registers.now a.marks.now c.requires.marks_value a.form a.md a.first a.count c.requires.md_bound.0 (sym (ap is_done c.in_ok-check_slice.ensures)) w ew in
+    let b = small a.m a.registers.now a.marks.now c.requires.marks_value a.form a.md a.first a.count c.requires.md_bound.0 (sym (ap is_done c.in_ok-check_slice.ensures)) w ew in
     subst (λ (p : Placed). RowsIn p.start p.pitch p.rows (p.columns * w) (length a.registers.now)
     × RowsIn p.start p.pitch p.rows (p.columns * w) (length a.marks.now) × (p.columns * w ≤ p.pitch) × (p.pitch < 2 ^ 32)) (sym c.slice_of-p.ensures)
     (r, k, q, b.1)
@@ -70,8 +67,8 @@ copy_slice-requires c =
     let w = c.sew_bytes-w.result in
     let ew = c.sew_bytes-w.ensures.value in
     let l = lies (goal.at.copy_slice-requires c).After-slice_of-p in
-    let g = group-in a.m a.registers.now a.marks.now c.requires.marks_value a.form a.md a.first a.count c.requires.md_bound.0 (fits (goal.at.copy_slice-requires c).Else-not-is_done) w ew a.vs1 a.vectors.now c.requires.md_bound.1.0 c.requires.vectors_len in
-    let y = width a.m a.registers.now a.marks.now c.requires.marks_value a.form a.md a.first a.count c.requires.md_bound.0 (fits (goal.at.copy_slice-requires c).Else-not-is_done) w ew in
+    let g = group-in a.m a.registers.now a.marks.now c.requires.marks_value a.form a.md a.first a.count c.requires.md_bound.0 (sym (ap is_done c.in_ok-check_slice.ensures)) w ew a.vs1 a.vectors.now c.requires.md_bound.1.0 c.requires.vectors_len in
+    let y = width a.m a.registers.now a.marks.now c.requires.marks_value a.form a.md a.first a.count c.requires.md_bound.0 (sym (ap is_done c.in_ok-check_slice.ensures)) w ew in
     record {
       rows_in = l.0;
       rows_in_2 = subst (λ (p : Placed). RowsIn (a.vs1 * vector_bytes) vector_bytes (memory_rows a.form p.rows p.columns) (memory_cols a.form p.rows p.columns * w) (length a.vectors.now)) (sym c.slice_of-p.ensures)
@@ -91,5 +88,5 @@ returns c =
     let a = c.args in
     in-done a.m a.registers.now a.marks.now a.form a.md a.vs1 a.first a.count a.vectors.now c.sew_bytes-w.result c.sew_bytes-w.ensures.value
     c.slice_of-p.result c.slice_of-p.ensures
-    (sym (only-done c.check_slice-fitting.result (sym c.is_done.ensures ∙ c.if-not-is_done.false)) ∙ c.check_slice-fitting.ensures)
+    (c.in_ok-check_slice.ensures)
     _ _ c.copy_slice.ensures c.mark_tile.ensures

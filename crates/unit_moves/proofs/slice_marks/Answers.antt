@@ -1,25 +1,18 @@
-use Rattle.numbers.proofs.Kit.{◌≡◌, sym, ap, ◌∙◌, subst, false, [], ◌∷◌, ◌+◌, ◌*◌, ◌≤◌, arith}
+use Rattle.numbers.proofs.Kit.{◌≡◌, sym, ap, ◌∙◌, subst, false, [], ◌∷◌, ◌+◌, ◌*◌, ◌≤◌, arith, Err}
 use Rattle.machine.specs.declared.Reply.{Reply}
+use Rattle.machine.specs.declared.Refusal.{Refusal}
 use Rattle.machine.specs.Answers.{verdict, is_done, reply}
 use Rattle.machine.specs.Refusals as Refusals
 use Rattle.machine.specs.MoveWords.{unwritten_in}
+use Rattle.machine.proofs.CodeLaws.{refused-not-done}
 use Rattle.unit_moves.proofs.SliceLaws.{needs-done, needs-named, needs-bounded}
-use Rattle.std.proofs.Common.{rules}
 use Rattle.unit_moves.proofs.slice_marks.Goals as goal
 use Rattle.unit_moves.proofs.slice_marks.Goals.{After-reply_of-named}
 
-pub first_unmarked-found-requires : goal.first_unmarked-found-requires
-first_unmarked-found-requires c =
-    record {
-      rows_in = c.requires.rows_in;
-      w_bound = c.requires.w_bound;
-    }
-
-pub returns-then-is_done : goal.returns-then-is_done
-returns-then-is_done c =
+pub returns-in-Ok : goal.returns-in-Ok
+returns-in-Ok c =
     let a = c.args in
-    needs-done a.form a.first a.marks.now (λ i. a.p.start + i * a.p.pitch) a.p.rows a.p.columns a.w
-    (sym (ap is_done c.first_unmarked-found.ensures) ∙ sym c.is_done.ensures ∙ c.if-is_done.true)
+    needs-done a.form a.first a.marks.now (λ i. a.p.start + i * a.p.pitch) a.p.rows a.p.columns a.w (sym (ap is_done c.first_unmarked-found.ensures) ∙ ap is_done c.in-Ok.is)
 
 -- the row and column that are named
 named : (c : After-reply_of-named) → let a = c.args in
@@ -34,9 +27,9 @@ unwritten_in-requires c =
     let j : c.reply_of-named.result.column ≤ a.p.columns = subst (λ (x : Reply). x.column ≤ a.p.columns) (sym (named c)) b.1 in
     (omega (arith, c.requires.rows_bound), omega (arith, c.requires.rows_bound))
 
-pub returns : goal.returns
-returns c =
+pub returns-in-Err : goal.returns-in-Err
+returns-in-Err c =
     let a = c.args in
-    c.unwritten_in.ensures ∙ ap (λ (x : Reply). unwritten_in a.form a.first x.row x.column) (named (goal.at.returns c).After-reply_of-named)
+    ap (λ (r : Refusal). Err r) (c.unwritten_in.ensures ∙ ap (λ (x : Reply). unwritten_in a.form a.first x.row x.column) (named (goal.at.returns-in-Err c).After-reply_of-named))
     ∙ needs-named a.form a.first a.marks.now (λ i. a.p.start + i * a.p.pitch) a.p.rows a.p.columns a.w
-    (sym (ap is_done c.first_unmarked-found.ensures) ∙ sym c.is_done.ensures ∙ c.if-is_done.false)
+    (sym (ap is_done c.first_unmarked-found.ensures) ∙ ap is_done c.in-Err.is ∙ refused-not-done c.in-Err.field-0)

@@ -1,5 +1,5 @@
 -- The row of A in pairs, then the row of C plus all pairs.
-use Rattle.numbers.proofs.Kit.{◌≡◌, refl, ◌∙◌, ℕ, ◌+◌, ◌*◌, ◌-◌, ◌/◌, ◌<◌, arith, get_or}
+use Rattle.numbers.proofs.Kit.{◌≡◌, ◌∙◌, ℕ, ◌+◌, ◌*◌, ◌-◌, ◌/◌, ◌<◌, arith, get_or}
 use Rattle.numbers.specs.Tile.{get_le}
 use Rattle.numbers.proofs.ElementLaws.{put_row-cong}
 use Rattle.unit_sums.specs.Rows.{product_row}
@@ -7,14 +7,8 @@ use Rattle.unit_pairs.specs.Pairs.{factor_places, pairs_row}
 use Rattle.unit_pairs.proofs.PairLaws.{zeros, pairs-product}
 use Rattle.unit_pairs.proofs.multiply_row.Goals as goal
 
-pub repeat_row-requires : goal.repeat_row-requires
-repeat_row-requires c =
-    record {
-      narrow = c.requires.narrow;
-      k_le_most_terms = (c.requires.n_le_most_columns.1, refl);
-      by_index = zeros factor_places;
-      width_in_bounds = c.requires.width_in_bounds.0;
-    }
+pub repeat_row-requires-clause-by_index : goal.repeat_row-requires-clause-by_index
+repeat_row-requires-clause-by_index c = zeros factor_places
 
 pub returns : goal.returns
 returns c =

@@ -8,10 +8,10 @@ use Rattle.unit_pairs.proofs.write_block.Goals as goal
 pub returns : goal.returns
 unfolding put_row
 returns c =
-    let w4 = c.write4-4 in
-    let w3 = c.write4-3 in
-    let w2 = c.write4-2 in
-    let w1 = c.write4 in
+    let w4 = c.write-4 in
+    let w3 = c.write-3 in
+    let w2 = c.write-2 in
+    let w1 = c.write in
     let a = c.args in
     let s = a.s.now in
     let f : ℕ → ℕ = lane a.x in

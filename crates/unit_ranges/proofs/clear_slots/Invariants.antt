@@ -1,4 +1,4 @@
-use Rattle.numbers.proofs.Kit.{◌≡◌, refl, ap, ◌∙◌, List, ℕ, suc, ◌+◌, ◌-◌, ◌≤◌, arith, length}
+use Rattle.numbers.proofs.Kit.{◌≡◌, ◌+◌, ◌-◌, List, ℕ, length}
 use Rattle.numbers.specs.Upto.{upto}
 use Rattle.machine.specs.Geometry.{range}
 use Rattle.unit_ranges.specs.Ranges.{put_range}
@@ -9,7 +9,4 @@ abbrev pub cleared : ℕ → ℕ → List ℕ → List ℕ
 cleared count n block = upto n (λ i. put_range (count + i) (range 0 0)) block
 
 abbrev pub invariant-loop-i : goal.invariant-loop-i
-invariant-loop-i l = (length l.block ≡ length l.initial.block) × (l.count ≤ l.i) × (l.i ≤ 8) × (l.block ≡ cleared l.count (l.i - l.count) l.initial.block)
-
-abbrev pub decreases-loop-i : goal.decreases-loop-i
-decreases-loop-i l = 8 - l.i
+invariant-loop-i l = (length l.block ≡ length l.initial.block) × (l.block ≡ cleared l.count (l.i - l.count) l.initial.block)

@@ -29,21 +29,21 @@ before b n l e k t h =
 pub returns-then-count-eq1 : goal.returns-then-count-eq1
 returns-then-count-eq1 c =
     let b = c.args.block.now in
-    before b c.read8-count.result c.if-block-ne-BLOCK_BYTES.false c.read8-count.ensures (omega (arith, c.if-count-eq1.true)) c.one_sound.result
+    before b c.read-count.result c.if-block-ne-BLOCK_BYTES.false c.read-count.ensures (omega (arith, c.if-count-eq1.true)) c.one_sound.result
     (c.one_sound.ensures ∙ ap (λ (n : ℕ). all most_seals (slot_sound b n)) (sym c.if-count-eq1.true))
 
 pub returns-then-count-eq0 : goal.returns-then-count-eq0
 returns-then-count-eq0 c =
     let b = c.args.block.now in
-    before b c.read8-count.result c.if-block-ne-BLOCK_BYTES.false c.read8-count.ensures (omega (arith, c.if-count-eq0.true)) c.none_sound.result
+    before b c.read-count.result c.if-block-ne-BLOCK_BYTES.false c.read-count.ensures (omega (arith, c.if-count-eq0.true)) c.none_sound.result
     (c.none_sound.ensures ∙ ap (λ (n : ℕ). all most_seals (slot_sound b n)) (sym c.if-count-eq0.true))
 
 pub returns-then-count-gt8 : goal.returns-then-count-gt8
 returns-then-count-gt8 c =
     let b = c.args.block.now in
-    fails (long b ∷ []) (eq-eqb (length b) 200 c.if-block-ne-BLOCK_BYTES.false, tt) (few b) (lt-leb (count_in b) 8 (omega (arith, c.if-count-gt8.true, c.read8-count.ensures))) (slots b ∷ []) ∙ fit-by b
+    fails (long b ∷ []) (eq-eqb (length b) 200 c.if-block-ne-BLOCK_BYTES.false, tt) (few b) (lt-leb (count_in b) 8 (omega (arith, c.if-count-gt8.true, c.read-count.ensures))) (slots b ∷ []) ∙ fit-by b
 
 pub returns : goal.returns
 returns c =
     let b = c.args.block.now in
-    before b c.read8-count.result c.if-block-ne-BLOCK_BYTES.false c.read8-count.ensures (omega (arith, c.if-count-gt8.false)) c.slots_sound.result c.slots_sound.ensures
+    before b c.read-count.result c.if-block-ne-BLOCK_BYTES.false c.read-count.ensures (omega (arith, c.if-count-gt8.false)) c.slots_sound.result c.slots_sound.ensures

@@ -10,17 +10,17 @@ returns-then-count-eq0 c =
     let a = c.args in
     in_block a.base a.stride a.rows a.bytes a.block.now c.requires.block_value 0 (omega (arith, c.if-count-eq0.true, k.ensures.0)) true (none-met a.base a.stride a.rows a.bytes)
 
-pub read8-start-requires : goal.read8-start-requires
-read8-start-requires c = let h = held c.args.block.now c.requires.block_value in omega (arith, h.long)
+pub read-start-requires : goal.read-start-requires
+read-start-requires c = let h = held c.args.block.now c.requires.block_value in omega (arith, h.long)
 
-pub read8-size-requires : goal.read8-size-requires
-read8-size-requires c = let h = held c.args.block.now c.requires.block_value in omega (arith, h.long)
+pub read-size-requires : goal.read-size-requires
+read-size-requires c = let h = held c.args.block.now c.requires.block_value in omega (arith, h.long)
 
 pub returns : goal.returns
 returns c =
     let k = c.count_of-count in
     let a = c.args in
     c.rows_miss.ensures
-    ∙ ap₂ (λ (p q : ℕ). rows_miss (within p q) a.base a.stride a.rows a.bytes) c.read8-start.ensures c.read8-size.ensures
+    ∙ ap₂ (λ (p q : ℕ). rows_miss (within p q) a.base a.stride a.rows a.bytes) c.read-start.ensures c.read-size.ensures
     ∙ one-missed a.base a.stride a.rows a.bytes a.block.now
     ∙ in_block a.base a.stride a.rows a.bytes a.block.now c.requires.block_value 1 (sym c.if-count-ne1.false ∙ k.ensures.0) _ refl

@@ -17,4 +17,4 @@ returns-then-rows_miss c =
     let k = c.count_of-count in
     let a = c.args in
     in_block a.base a.stride a.rows a.bytes a.block.now c.requires.block_value k.result k.ensures.0 true
-    (all-missed a.base a.stride a.rows a.bytes a.block.now k.result h.result.low h.result.high h.ensures (sym c.rows_miss.ensures ∙ c.if-rows_miss.true))
+    (all-missed a.base a.stride a.rows a.bytes a.block.now k.result h.result.start h.result.end h.ensures (sym c.rows_miss.ensures ∙ c.if-rows_miss.true))

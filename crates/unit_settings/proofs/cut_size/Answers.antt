@@ -1,13 +1,6 @@
-use mathlib.Core.Path.{◌≡◌, sym, ap, ap₂, ◌∙◌}
+use mathlib.Core.Path.{◌≡◌, sym, ◌∙◌}
 use mathlib.Core.Bool.{false}
-use Prim.Native.Nat.{min}
-use mathlib.Core.List.{[]}
-use Rattle.machine.specs.declared.Machine.{Machine}
-use Rattle.machine.specs.declared.Answer.TheVariants.{Done}
-use Rattle.machine.specs.Geometry.{state_of}
-use Rattle.machine.specs.Setting.{mill, maximum, smaller, size_in}
-use Rattle.unit_settings.specs.Parts.{ours, with_size}
-use borrow.Author.Rules.{rules}
+use Rattle.machine.specs.Setting.{mill}
 use Rattle.unit_settings.proofs.cut_size.Goals as goal
 use Rattle.unit_settings.proofs.cut_size.Goals.{Else-is_mill}
 

@@ -1,11 +1,10 @@
 use mathlib.Core.Path.{sym, ap, ◌∙◌}
 use Prim.Native.Nat.{ℕ, ◌/◌, min}
 use native.Mathlib.Omega.{arith}
-use Rattle.machine.specs.Setting.{maximum, smaller}
+use Rattle.machine.specs.Setting.{maximum}
 use Rattle.unit_settings.specs.Parts.{ours}
 use Rattle.unit_settings.proofs.TypeLaws.{ready-legal}
 use Rattle.machine.proofs.StepLaws.{permitted-bounds}
-use borrow.Author.Rules.{rules}
 use Rattle.unit_settings.proofs.largest.Goals as goal
 
 pub nonzero_div-rows : goal.nonzero_div-rows
@@ -25,7 +24,7 @@ returns-in-DimensionM c =
 pub returns-in-DimensionK : goal.returns-in-DimensionK
 returns-in-DimensionK c =
     let m = c.args.m in
-    c.smaller.ensures ∙ ap (λ (e : ℕ). min (m.mlen / m.rlen) (m.rlen / 8 / e)) c.sew_bytes.ensures.value
+    c.min.ensures ∙ ap (λ (e : ℕ). min (m.mlen / m.rlen) (m.rlen / 8 / e)) c.sew_bytes.ensures.value
     ∙ ap (maximum (ours m) m.mtype) (sym c.in-DimensionK.is)
 
 pub returns-in-DimensionN : goal.returns-in-DimensionN

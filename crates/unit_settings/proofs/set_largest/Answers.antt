@@ -3,7 +3,6 @@ use mathlib.Core.Bool.{true}
 use Prim.Native.Nat.{ℕ}
 use Rattle.machine.specs.Setting.{mill}
 use Rattle.unit_settings.specs.Parts.{size_stepped, size_scalars}
-use borrow.Author.Rules.{rules}
 use Rattle.unit_settings.proofs.set_largest.Goals as goal
 
 pub returns-then-is_mill : goal.returns-then-is_mill

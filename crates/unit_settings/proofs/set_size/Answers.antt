@@ -2,11 +2,10 @@ use mathlib.Core.Path.{◌≡◌, sym, ap, ◌∙◌}
 use mathlib.Core.Bool.{true, false}
 use Prim.Native.Nat.{ℕ}
 use Rattle.machine.specs.declared.Machine.{Machine}
-use Rattle.machine.specs.declared.Answer.TheVariants.{Done}
+use Rattle.machine.specs.Answers.{Done}
 use Rattle.machine.specs.Setting.{mill, chosen}
 use Rattle.unit_settings.specs.Parts.{with_size, granted}
 use Rattle.machine.specs.Geometry.{with_scalar}
-use borrow.Author.Rules.{rules}
 use Rattle.unit_settings.proofs.set_size.Goals as goal
 use Rattle.unit_settings.proofs.set_size.Goals.{Else-is_mill}
 

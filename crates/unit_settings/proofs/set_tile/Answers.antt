@@ -4,7 +4,6 @@ use Prim.Native.Nat.{ℕ}
 use lib.Dec.{eqb}
 use borrow.Author.Tests.{eq-eqb, ne_eqb}
 use Rattle.unit_settings.specs.Parts.{size_stepped, size_scalars}
-use borrow.Author.Rules.{rules}
 use Rattle.unit_settings.proofs.set_tile.Goals as goal
 
 pub returns-then-rs1-ne0 : goal.returns-then-rs1-ne0

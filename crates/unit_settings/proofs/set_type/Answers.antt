@@ -1,7 +1,6 @@
 use mathlib.Core.Path.{ap, ◌∙◌}
 use Rattle.unit_settings.specs.Parts.{with_type}
 use Rattle.machine.specs.Geometry.{with_scalar}
-use borrow.Author.Rules.{rules}
 use Rattle.unit_settings.proofs.set_type.Goals as goal
 
 pub returns : goal.returns

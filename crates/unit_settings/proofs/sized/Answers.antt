@@ -3,7 +3,6 @@ use mathlib.Core.Bool.{true, false}
 use Prim.Native.Nat.{ℕ}
 use Rattle.machine.specs.Setting.{mill, chosen}
 use Rattle.unit_settings.specs.Parts.{with_size, granted}
-use borrow.Author.Rules.{rules}
 use Rattle.unit_settings.proofs.sized.Goals as goal
 use Rattle.unit_settings.proofs.sized.Goals.{Else-is_mill}
 

@@ -1,7 +1,6 @@
 use mathlib.Core.Path.{sym, ap}
 use Rattle.machine.specs.declared.Dimension.{Dimension}
 use Rattle.unit_settings.specs.Parts.{with_size}
-use borrow.Author.Rules.{rules}
 use Rattle.unit_settings.proofs.with_size.Goals as goal
 
 pub returns-in-DimensionM : goal.returns-in-DimensionM

@@ -4,12 +4,10 @@ use Rattle.unit_start.proofs.chosen.Goals as goal
 
 pub returns-then-is_halved : goal.returns-then-is_halved
 returns-then-is_halved c =
-    let t = c.before in
-    let a = t.before.args in
-    omega (arith, chosen_by a.rule a.most a.asked true (sym c.if-is_halved.true ∙ t.is_halved.ensures))
+    let a = c.args in
+    omega (arith, chosen_by a.rule a.most a.asked true (sym c.if-is_halved.true ∙ c.is_halved.ensures))
 
 pub returns : goal.returns
 returns c =
-    let t = c.before.before in
-    let a = t.before.args in
-    c.smaller.ensures ∙ chosen_by a.rule a.most a.asked false (sym c.before.if-is_halved.false ∙ t.is_halved.ensures)
+    let a = c.args in
+    c.min.ensures ∙ chosen_by a.rule a.most a.asked false (sym c.if-is_halved.false ∙ c.is_halved.ensures)

@@ -1,17 +1,16 @@
-use Rattle.numbers.proofs.Kit.{◌≡◌, refl, sym, ap, ap₂, ◌∙◌, subst, true, false, List, ℕ, ◌%◌, ◌^◌, arith, length, eqb-true}
+use Rattle.numbers.proofs.Kit.{◌≡◌, refl, sym, ap, ap₂, ◌∙◌, subst, true, false, List, ℕ, ◌%◌, ◌^◌, arith, length, eqb-true, Err}
 use Rattle.machine.specs.declared.Instruction.{Instruction}
 use Rattle.machine.specs.declared.Machine.{Machine}
-use Rattle.machine.specs.declared.Stepped.{Stepped}
-use Rattle.machine.specs.declared.Answer.{Answer}
-use Rattle.machine.specs.declared.Answer.TheVariants.{Done}
+use Rattle.machine.specs.Step.{Stepped}
 use Rattle.unit_settings.specs.Parts.{ours, with_type}
 use Rattle.numbers.specs.Reduce.{signed}
-use Rattle.machine.specs.Answers.{reply}
+use Rattle.machine.specs.declared.Refusal.{Refusal}
+use Rattle.machine.specs.Answers.{reply, Done}
 use Rattle.unit_ranges.specs.Ranges.{seals_in}
 use Rattle.machine.specs.Geometry.{state_of, with_scalar, bench_of}
 use Rattle.machine.specs.Setting.{sew, new_type}
 use Rattle.machine.specs.Operation.{Operation, operation_in, operation, times}
-use Rattle.machine.specs.Step.{Outcome, beside, outcome, destination, stepped_as}
+use Rattle.machine.specs.Step.{Outcome, beside, outcome, destination, stepped, stepped_as}
 use Rattle.machine.specs.Vectors.{vectors_of}
 use Rattle.unit_moves.specs.Parts.{moved}
 use Rattle.unit_step.specs.Parts.{Decoded, carried_beside}
@@ -163,7 +162,7 @@ pub returns-in-Illegal : goal.returns-in-Illegal
 returns-in-Illegal c =
     let a = c.args in
     other_arm (goal.at.returns-in-Illegal c).Start _ c.in-Illegal.is refl _ (
-    ap (λ (x : Answer). stepped_as (record { answer = x; machine = a.m }) (seals_in a.seals.now) a.registers.now a.marks.now a.scalars.now a.memory.now) c.word_answer.ensures
+    ap (λ (x : Refusal). stepped_as (stepped a.m (Err x)) (seals_in a.seals.now) a.registers.now a.marks.now a.scalars.now a.memory.now) c.word_answer.ensures
     ∙ illegal-outcome a.m (seals_in a.seals.now) a.instruction a.scalars.now a.registers.now a.marks.now a.memory.now c.requires.marks_value c.requires.seals_value c.requires.scalars_value _ (meant (goal.at.returns-in-Illegal c).Start _ c.in-Illegal.is))
 
 pub returns-in-SetTypeImmediate : goal.returns-in-SetTypeImmediate
@@ -201,7 +200,8 @@ returns-in-Load c =
     let base = c.read_scalar-base.ensures in
     let stride = c.read_scalar-stride.ensures in
     other_arm (goal.at.returns-in-Load c).Start _ c.in-Load.is refl _ (
-    loads-outcome a.m (seals_in a.seals.now) a.instruction a.scalars.now a.registers.now a.marks.now a.memory.now c.requires.marks_value c.requires.seals_value c.requires.scalars_value _ (meant (goal.at.returns-in-Load c).Start _ c.in-Load.is ∙ ap₂ (λ (x y : ℕ). Operation.load c.in-Load.form c.in-Load.matrix c.in-Load.md c.in-Load.width x y) (sym base) (sym stride)) (ap destination c.in-Load.is) _ _ _ c.load.ensures refl refl)
+    ap (λ (r : Stepped). stepped_as r (seals_in a.seals.now) c.load.new.registers c.load.new.marks a.scalars.now a.memory.now) c.leaving.ensures
+    ∙ loads-outcome a.m (seals_in a.seals.now) a.instruction a.scalars.now a.registers.now a.marks.now a.memory.now c.requires.marks_value c.requires.seals_value c.requires.scalars_value _ (meant (goal.at.returns-in-Load c).Start _ c.in-Load.is ∙ ap₂ (λ (x y : ℕ). Operation.load c.in-Load.form c.in-Load.matrix c.in-Load.md c.in-Load.width x y) (sym base) (sym stride)) (ap destination c.in-Load.is) _ _ _ c.load.ensures refl refl)
 
 pub returns-in-Store : goal.returns-in-Store
 returns-in-Store c =
@@ -209,21 +209,24 @@ returns-in-Store c =
     let base = c.read_scalar-base-in-Store.ensures in
     let stride = c.read_scalar-stride-in-Store.ensures in
     other_arm (goal.at.returns-in-Store c).Start _ c.in-Store.is refl _ (
-    stores-outcome a.m (seals_in a.seals.now) a.instruction a.scalars.now a.registers.now a.marks.now a.memory.now c.requires.marks_value c.requires.seals_value c.requires.scalars_value _ (meant (goal.at.returns-in-Store c).Start _ c.in-Store.is ∙ ap₂ (λ (x y : ℕ). Operation.store c.in-Store.form c.in-Store.matrix c.in-Store.ms3 c.in-Store.width x y) (sym base) (sym stride)) (ap destination c.in-Store.is) _ _ c.store.ensures refl)
+    ap (λ (r : Stepped). stepped_as r (seals_in a.seals.now) a.registers.now a.marks.now a.scalars.now c.store.new.memory) c.leaving-in-Store.ensures
+    ∙ stores-outcome a.m (seals_in a.seals.now) a.instruction a.scalars.now a.registers.now a.marks.now a.memory.now c.requires.marks_value c.requires.seals_value c.requires.scalars_value _ (meant (goal.at.returns-in-Store c).Start _ c.in-Store.is ∙ ap₂ (λ (x y : ℕ). Operation.store c.in-Store.form c.in-Store.matrix c.in-Store.ms3 c.in-Store.width x y) (sym base) (sym stride)) (ap destination c.in-Store.is) _ _ c.store.ensures refl)
 
 pub returns-in-Multiply : goal.returns-in-Multiply
 returns-in-Multiply c =
     let a = c.args in
     let l = c.multiply.ensures in
     other_arm (goal.at.returns-in-Multiply c).Start _ c.in-Multiply.is refl _ (
-    loads-outcome a.m (seals_in a.seals.now) a.instruction a.scalars.now a.registers.now a.marks.now a.memory.now c.requires.marks_value c.requires.seals_value c.requires.scalars_value _ (meant (goal.at.returns-in-Multiply c).Start _ c.in-Multiply.is) (ap destination c.in-Multiply.is) _ _ _ (record { answer-is = l.answer-is; registers-are = l.registers-are; marks-are = l.marks-are }) refl refl)
+    ap (λ (r : Stepped). stepped_as r (seals_in a.seals.now) c.multiply.new.registers a.marks.now a.scalars.now a.memory.now) c.leaving-in-Multiply.ensures
+    ∙ loads-outcome a.m (seals_in a.seals.now) a.instruction a.scalars.now a.registers.now a.marks.now a.memory.now c.requires.marks_value c.requires.seals_value c.requires.scalars_value _ (meant (goal.at.returns-in-Multiply c).Start _ c.in-Multiply.is) (ap destination c.in-Multiply.is) _ _ _ (record { answer-is = l.answer-is; registers-are = l.registers-are; marks-are = l.marks-are }) refl refl)
 
 pub returns-in-Combine : goal.returns-in-Combine
 returns-in-Combine c =
     let a = c.args in
     let l = c.combine.ensures in
     other_arm (goal.at.returns-in-Combine c).Start _ c.in-Combine.is refl _ (
-    loads-outcome a.m (seals_in a.seals.now) a.instruction a.scalars.now a.registers.now a.marks.now a.memory.now c.requires.marks_value c.requires.seals_value c.requires.scalars_value _ (meant (goal.at.returns-in-Combine c).Start _ c.in-Combine.is) (ap destination c.in-Combine.is) _ _ _ (record { answer-is = l.answer-is; registers-are = l.registers-are; marks-are = l.marks-are }) refl refl)
+    ap (λ (r : Stepped). stepped_as r (seals_in a.seals.now) c.combine.new.registers a.marks.now a.scalars.now a.memory.now) c.leaving-in-Combine.ensures
+    ∙ loads-outcome a.m (seals_in a.seals.now) a.instruction a.scalars.now a.registers.now a.marks.now a.memory.now c.requires.marks_value c.requires.seals_value c.requires.scalars_value _ (meant (goal.at.returns-in-Combine c).Start _ c.in-Combine.is) (ap destination c.in-Combine.is) _ _ _ (record { answer-is = l.answer-is; registers-are = l.registers-are; marks-are = l.marks-are }) refl refl)
 
 pub returns-in-Scale : goal.returns-in-Scale
 returns-in-Scale c =
@@ -233,7 +236,8 @@ returns-in-Scale c =
     let z = signed (256 ^ sew a.m.mtype) (c.read_scalar.result % 256 ^ sew a.m.mtype) in
     let l = c.scale.ensures z k.residue k.zero_is in
     other_arm (goal.at.returns-in-Scale c).Start _ c.in-Scale.is refl _ (
-    loads-outcome a.m (seals_in a.seals.now) a.instruction a.scalars.now a.registers.now a.marks.now a.memory.now c.requires.marks_value c.requires.seals_value c.requires.scalars_value _ (meant (goal.at.returns-in-Scale c).Start _ c.in-Scale.is ∙ ap (λ (x : ℕ). Operation.scale (times c.in-Scale.factor) c.in-Scale.md c.in-Scale.ms1 (signed (256 ^ sew a.m.mtype) (x % 256 ^ sew a.m.mtype))) (sym v)) (ap destination c.in-Scale.is) _ _ _ (record { answer-is = l.answer-is; registers-are = l.registers-are; marks-are = l.marks-are }) refl refl)
+    ap (λ (r : Stepped). stepped_as r (seals_in a.seals.now) c.scale.new.registers c.scale.new.marks a.scalars.now a.memory.now) c.leaving-in-Scale.ensures
+    ∙ loads-outcome a.m (seals_in a.seals.now) a.instruction a.scalars.now a.registers.now a.marks.now a.memory.now c.requires.marks_value c.requires.seals_value c.requires.scalars_value _ (meant (goal.at.returns-in-Scale c).Start _ c.in-Scale.is ∙ ap (λ (x : ℕ). Operation.scale (times c.in-Scale.factor) c.in-Scale.md c.in-Scale.ms1 (signed (256 ^ sew a.m.mtype) (x % 256 ^ sew a.m.mtype))) (sym v)) (ap destination c.in-Scale.is) _ _ _ (record { answer-is = l.answer-is; registers-are = l.registers-are; marks-are = l.marks-are }) refl refl)
 
 pub returns-in-ScaleImmediate : goal.returns-in-ScaleImmediate
 returns-in-ScaleImmediate c =
@@ -241,14 +245,16 @@ returns-in-ScaleImmediate c =
     let k = c.sign_extend-by.ensures in
     let l = c.scale-in-ScaleImmediate.ensures (signed 32 c.in-ScaleImmediate.immediate) (sym k.0) k.1 in
     other_arm (goal.at.returns-in-ScaleImmediate c).Start _ c.in-ScaleImmediate.is refl _ (
-    loads-outcome a.m (seals_in a.seals.now) a.instruction a.scalars.now a.registers.now a.marks.now a.memory.now c.requires.marks_value c.requires.seals_value c.requires.scalars_value _ (meant (goal.at.returns-in-ScaleImmediate c).Start _ c.in-ScaleImmediate.is) (ap destination c.in-ScaleImmediate.is) _ _ _ (record { answer-is = l.answer-is; registers-are = l.registers-are; marks-are = l.marks-are }) refl refl)
+    ap (λ (r : Stepped). stepped_as r (seals_in a.seals.now) c.scale-in-ScaleImmediate.new.registers c.scale-in-ScaleImmediate.new.marks a.scalars.now a.memory.now) c.leaving-in-ScaleImmediate.ensures
+    ∙ loads-outcome a.m (seals_in a.seals.now) a.instruction a.scalars.now a.registers.now a.marks.now a.memory.now c.requires.marks_value c.requires.seals_value c.requires.scalars_value _ (meant (goal.at.returns-in-ScaleImmediate c).Start _ c.in-ScaleImmediate.is) (ap destination c.in-ScaleImmediate.is) _ _ _ (record { answer-is = l.answer-is; registers-are = l.registers-are; marks-are = l.marks-are }) refl refl)
 
 pub returns-in-FloatMultiply : goal.returns-in-FloatMultiply
 returns-in-FloatMultiply c =
     let a = c.args in
     let l = c.float_multiply.ensures in
     other_arm (goal.at.returns-in-FloatMultiply c).Start _ c.in-FloatMultiply.is refl _ (
-    loads-outcome a.m (seals_in a.seals.now) a.instruction a.scalars.now a.registers.now a.marks.now a.memory.now c.requires.marks_value c.requires.seals_value c.requires.scalars_value _ (meant (goal.at.returns-in-FloatMultiply c).Start _ c.in-FloatMultiply.is) (ap destination c.in-FloatMultiply.is) _ _ _ (record { answer-is = l.answer-is; registers-are = l.registers-are; marks-are = l.marks-are }) refl refl)
+    ap (λ (r : Stepped). stepped_as r (seals_in a.seals.now) c.float_multiply.new.registers a.marks.now a.scalars.now a.memory.now) c.leaving-in-FloatMultiply.ensures
+    ∙ loads-outcome a.m (seals_in a.seals.now) a.instruction a.scalars.now a.registers.now a.marks.now a.memory.now c.requires.marks_value c.requires.seals_value c.requires.scalars_value _ (meant (goal.at.returns-in-FloatMultiply c).Start _ c.in-FloatMultiply.is) (ap destination c.in-FloatMultiply.is) _ _ _ (record { answer-is = l.answer-is; registers-are = l.registers-are; marks-are = l.marks-are }) refl refl)
 
 pub read_scalar-first-requires : goal.read_scalar-first-requires
 read_scalar-first-requires c =
@@ -284,12 +290,14 @@ pub returns-in-MoveOut : goal.returns-in-MoveOut
 returns-in-MoveOut c =
     let a = c.args in
     let W = vectors_of a.vectors.now a.group in
-    slice-outcome a.m (seals_in a.seals.now) a.instruction a.scalars.now a.registers.now a.marks.now a.memory.now W c.requires.marks_value c.requires.seals_value c.requires.scalars_value (ap destination c.in-MoveOut.is) false c.in-MoveOut.form c.in-MoveOut.ms1 c.in-MoveOut.vd c.read_scalar-first.result
+    ap (λ (r : Stepped). beside c.move_slice.new.vectors (stepped_as r (seals_in a.seals.now) c.move_slice.new.registers c.move_slice.new.marks a.scalars.now a.memory.now)) c.leaving-in-MoveOut.ensures
+    ∙ slice-outcome a.m (seals_in a.seals.now) a.instruction a.scalars.now a.registers.now a.marks.now a.memory.now W c.requires.marks_value c.requires.seals_value c.requires.scalars_value (ap destination c.in-MoveOut.is) false c.in-MoveOut.form c.in-MoveOut.ms1 c.in-MoveOut.vd c.read_scalar-first.result
     (meant-in (goal.at.returns-in-MoveOut c).Start _ c.in-MoveOut.is ∙ ap (λ (x : ℕ). moved false W c.in-MoveOut.form c.in-MoveOut.ms1 c.in-MoveOut.vd x) (sym c.read_scalar-first.ensures)) _ _ _ _ c.move_slice.ensures
 
 pub returns-in-MoveIn : goal.returns-in-MoveIn
 returns-in-MoveIn c =
     let a = c.args in
     let W = vectors_of a.vectors.now a.group in
-    slice-outcome a.m (seals_in a.seals.now) a.instruction a.scalars.now a.registers.now a.marks.now a.memory.now W c.requires.marks_value c.requires.seals_value c.requires.scalars_value (ap destination c.in-MoveIn.is) true c.in-MoveIn.form c.in-MoveIn.md c.in-MoveIn.vs1 c.read_scalar-first-in-MoveIn.result
+    ap (λ (r : Stepped). beside c.move_slice-in-MoveIn.new.vectors (stepped_as r (seals_in a.seals.now) c.move_slice-in-MoveIn.new.registers c.move_slice-in-MoveIn.new.marks a.scalars.now a.memory.now)) c.leaving-in-MoveIn.ensures
+    ∙ slice-outcome a.m (seals_in a.seals.now) a.instruction a.scalars.now a.registers.now a.marks.now a.memory.now W c.requires.marks_value c.requires.seals_value c.requires.scalars_value (ap destination c.in-MoveIn.is) true c.in-MoveIn.form c.in-MoveIn.md c.in-MoveIn.vs1 c.read_scalar-first-in-MoveIn.result
     (meant-in (goal.at.returns-in-MoveIn c).Start _ c.in-MoveIn.is ∙ ap (λ (x : ℕ). moved true W c.in-MoveIn.form c.in-MoveIn.md c.in-MoveIn.vs1 x) (sym c.read_scalar-first-in-MoveIn.ensures)) _ _ _ _ c.move_slice-in-MoveIn.ensures

@@ -26,10 +26,10 @@ whole_is s i t b z w ei et eb ez ew =
     ew ∙ ap₂ (λ (x : Fields) (y : Runs). record { fields = rested x; runs = y }) et (ez ∙ ap₂ (λ (x : List ℕ) (y : Runs). runs_all x y.left y) ei (eb ∙ ap runs_behind et))
 
 read : (c : After-read_fields-fields) → c.read_fields-fields.result ≡ read_in c.args.image.now
-read c = fields-is c.args.image.now c.set_on-r.result.image.now _ _ (ap (λ (x : Bor (List ℕ)). x.now) c.set_on-r.ensures.0) c.first_field-first.ensures c.read_fields-fields.ensures.0
+read c = fields-is c.args.image.now c.new-r.result.image.now _ _ (ap (λ (x : Bor (List ℕ)). x.now) c.new-r.ensures.0) c.first_field-first.ensures c.read_fields-fields.ensures.0
 
 same : (c : After-read_fields-fields) → c.read_fields-fields.new.r.image.now ≡ c.args.image.now
-same c = ap (λ (x : Bor (List ℕ)). x.now) (c.read_fields-fields.ensures.1 ∙ c.set_on-r.ensures.0)
+same c = ap (λ (x : Bor (List ℕ)). x.now) (c.read_fields-fields.ensures.1 ∙ c.new-r.ensures.0)
 
 pub runs_behind-behind-requires : goal.runs_behind-behind-requires
 runs_behind-behind-requires c = subst FieldsOk (sym (read c)) (read_ok c.args.image.now)

@@ -1,5 +1,5 @@
 -- `image_read::seals::put_ranges` meets its contract. The invariant: the ranges that are left make of the block what all make.
-use Rattle.numbers.proofs.Kit.{◌≡◌, refl, ap, ◌∙◌, List, ℕ, ◌+◌, ◌-◌, arith, not-true, not-false}
+use Rattle.numbers.proofs.Kit.{◌≡◌, refl, ap, ◌∙◌, List, ℕ, ◌+◌, ◌-◌, arith}
 use Rattle.image_header.specs.Fields.{range_at, ranges_found}
 use Rattle.image_header.proofs.HeadLaws.{range-good, range-bad}
 use Rattle.image_read.specs.Parts.{put_ranges}
@@ -11,12 +11,11 @@ loop-i-init c =
     let all : c.args.count - 0 ≡ c.args.count = omega arith in
     (refl, omega arith, rw all c.requires.stand.ends, rw all)
 
-pub returns-then-not-range : goal.returns-then-not-range
-returns-then-not-range c =
-    let r = c.range_at-range in
+pub returns-in_default : goal.returns-in_default
+returns-in_default c =
     let l = c.loop-i in
     let a = c.args in
-    absurd (stands-not a.s.now a.count l.i l.at r.result.at c.loop-i-test.true (range-bad r.result (range_at a.s.now l.at) r.ensures (not-true _ c.if-not-range.true)) l.invariant.2)
+    absurd (stands-not a.s.now a.count l.i l.at _ c.loop-i-test.true (range-bad (range_at a.s.now l.at) c.in_default.ensures) l.invariant.2)
 
 pub put_range-requires : goal.put_range-requires
 put_range-requires c =
@@ -27,15 +26,15 @@ put_range-requires c =
 
 pub loop-i-preserved : goal.loop-i-preserved
 loop-i-preserved c =
-    let r = c.range_at-range in
+    let r = c.in-Ok.range in
     let l = c.loop-i in
     let a = c.args in
-    let e = range-good r.result (range_at a.s.now l.at) r.ensures (not-false _ c.if-not-range.false) in (
+    let e = range-good (range_at a.s.now l.at) c.in-Ok.ensures in (
       c.put_range.auto.block ∙ l.invariant.0,
       omega (arith, c.loop-i-test.true),
-      stands-next a.s.now a.count l.i l.at r.result.start r.result.size r.result.at c.loop-i-test.true e l.invariant.2,
-      ap (λ (b : List ℕ). put_ranges (l.i + 1) (ranges_found a.s.now (a.count - (l.i + 1)) r.result.at) b) c.put_range.ensures
-          ∙ put_next a.s.now a.count l.i l.at r.result.start r.result.size r.result.at c.loop-i-test.true e l.block ∙ l.invariant.3,
+      stands-next a.s.now a.count l.i l.at r.start r.size r.at c.loop-i-test.true e l.invariant.2,
+      ap (λ (b : List ℕ). put_ranges (l.i + 1) (ranges_found a.s.now (a.count - (l.i + 1)) r.at) b) c.put_range.ensures
+          ∙ put_next a.s.now a.count l.i l.at r.start r.size r.at c.loop-i-test.true e l.block ∙ l.invariant.3,
     )
 
 pub returns : goal.returns

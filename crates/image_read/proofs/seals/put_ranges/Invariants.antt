@@ -8,6 +8,3 @@ abbrev pub invariant-loop-i : goal.invariant-loop-i
 invariant-loop-i l =
     (length l.block ≡ length l.initial.block) × (l.i ≤ l.count) × Ends (ranges_end l.s (l.count - l.i) l.at)
     × (put_ranges l.i (ranges_found l.s (l.count - l.i) l.at) l.block ≡ put_ranges 0 (ranges_found l.s l.count l.first) l.initial.block)
-
-abbrev pub decreases-loop-i : goal.decreases-loop-i
-decreases-loop-i l = l.count - l.i

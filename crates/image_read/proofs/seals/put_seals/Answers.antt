@@ -13,5 +13,5 @@ returns c =
     let a = c.args in
     let rs : Seals = ranges_found a.s.now a.count a.first in
     c.clear_slots.ensures
-    ∙ ap (λ (b : List ℕ). upto (8 - a.count) (λ i. put_range (a.count + i) (range 0 0)) b) (c.put_ranges.ensures ∙ ap (put_ranges 0 rs) c.write8.ensures)
+    ∙ ap (λ (b : List ℕ). upto (8 - a.count) (λ i. put_range (a.count + i) (range 0 0)) b) (c.put_ranges.ensures ∙ ap (put_ranges 0 rs) c.write.ensures)
     ∙ seals-put rs a.count c.requires.stand.few (found-many a.s.now a.count a.first c.requires.stand.ends) a.block.now

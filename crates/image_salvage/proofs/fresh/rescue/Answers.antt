@@ -1,5 +1,5 @@
 -- `image_salvage::fresh::rescue` meets its contract.
-use mathlib.Core.Path.{◌≡◌, ap, ◌∙◌}
+use mathlib.Core.Path.{◌≡◌}
 use Prim.Native.Nat.{ℕ, ◌*◌, ◌^◌, ◌≤◌, ◌<◌}
 use native.Mathlib.Omega.{arith}
 use lib.ListN.{length, get_or}
@@ -8,8 +8,6 @@ use Rattle.image_header.specs.Fields.{machine_of}
 use Rattle.image_header.proofs.HeadLaws.{HeadedOk}
 use Rattle.image_header.proofs.HeadLaws.{head-sizes}
 use Rattle.image_check.proofs.CheckLaws.{scan-headed}
-use Rattle.image_salvage.specs.declared.Salvaged.{Salvaged}
-use Rattle.image_salvage.specs.Salvage.{salvaged_as}
 use Rattle.image_salvage.specs.Parts.{tally_at}
 use Rattle.image_salvage.proofs.StepLaws.{bytes-all, tally-scan}
 use Rattle.image_salvage.proofs.FreshLaws.{tally-sizes, tally-short, tally-done, count-before}
@@ -47,8 +45,8 @@ overflow_sub-first c = omega (arith, c.number_size.ensures, before (goal.at.over
 pub overflow_add-size : goal.overflow_add-size
 overflow_add-size c = let z = sizes (goal.at.overflow_add-size c).After-number_size in omega (arith, z.0, z.1, z.2, c.number_size-2.ensures, c.number_size.ensures, before (goal.at.overflow_add-size c).After-number_size)
 
-pub overflow_sub-size : goal.overflow_sub-size
-overflow_sub-size c = (sizes (goal.at.overflow_sub-size c).After-number_size).0
+pub overflow_sub-n : goal.overflow_sub-n
+overflow_sub-n c = (sizes (goal.at.overflow_sub-n c).After-number_size).0
 
 pub overflow_add-size-2 : goal.overflow_add-size-2
 overflow_add-size-2 c = let z = sizes (goal.at.overflow_add-size-2 c).After-number_size in omega (arith, z.0, z.1, z.2, c.number_size-2.ensures, c.number_size.ensures, before (goal.at.overflow_add-size-2 c).After-number_size)
@@ -57,12 +55,8 @@ pub returns-then-room-size : goal.returns-then-room-size
 returns-then-room-size c =
     let a = c.args in
     let f = a.found in
-    ap (λ (r : Salvaged). salvaged_as r a.room.now) c.refused.ensures
-    ∙ tally-short a.s.now f.fields.at f.fields.runs (2 * 2 ^ f.fields.mlen) (input (goal.at.returns-then-room-size c).After-number_size) (head-sizes _ _ _ _ _ _ (head (goal.at.returns-then-room-size c).After-number_size)).2 (record { runs = f.runs.kept; end = f.runs.at; place = f.runs.place }) (tallied (goal.at.returns-then-room-size c).After-number_size) c.number_size.result c.number_size-2.result
+    tally-short a.s.now f.fields.at f.fields.runs (2 * 2 ^ f.fields.mlen) (input (goal.at.returns-then-room-size c).After-number_size) (head-sizes _ _ _ _ _ _ (head (goal.at.returns-then-room-size c).After-number_size)).2 (record { runs = f.runs.kept; end = f.runs.at; place = f.runs.place }) (tallied (goal.at.returns-then-room-size c).After-number_size) c.number_size.result c.number_size-2.result
     c.number_size.ensures (omega (arith, c.number_size.ensures, before (goal.at.returns-then-room-size c).After-number_size)) c.number_size-2.ensures a.room.now c.if-room-size.true
-
-pub overflow_sub-end : goal.overflow_sub-end
-overflow_sub-end c = (sizes (goal.at.overflow_sub-end c).After-number_size).0
 
 pub put_fresh-requires : goal.put_fresh-requires
 put_fresh-requires c =

@@ -8,17 +8,17 @@ use Rattle.image_write.proofs.seals.bounds_of.Goals as goal
 pub loop-i-init : goal.loop-i-init
 loop-i-init c = (omega arith, refl, refl)
 
-pub read8-requires : goal.read8-requires
-read8-requires c =
+pub read-requires : goal.read-requires
+read-requires c =
     omega (arith, c.slot_at-at.ensures.1, block-long c.args.block.now c.requires)
 
-pub read8-requires-in-loop-i : goal.read8-requires-in-loop-i
-read8-requires-in-loop-i c =
+pub read-requires-in-loop-i : goal.read-requires-in-loop-i
+read-requires-in-loop-i c =
     omega (arith, c.slot_at-at.ensures.1, block-long c.args.block.now c.requires)
 
 pub bounds-numbers-i-in-loop-i : goal.bounds-numbers-i-in-loop-i
 bounds-numbers-i-in-loop-i c =
-    omega (arith, c.loop-i-test.true, c.count_of-count.ensures.1, c.loop-i.invariant.1, length-set c.loop-i.numbers (2 * c.loop-i.i) c.read8.result)
+    omega (arith, c.loop-i-test.true, c.count_of-count.ensures.1, c.loop-i.invariant.1, length-set c.loop-i.numbers (2 * c.loop-i.i) c.read.result)
 
 pub loop-i-preserved : goal.loop-i-preserved
 loop-i-preserved c =
@@ -26,9 +26,9 @@ loop-i-preserved c =
     let a = c.args in
     let many = c.count_of-count.ensures.1 in (
       omega (arith, c.loop-i-test.true),
-      length-set (set l.numbers (2 * l.i) c.read8.result) (2 * l.i + 1) c.read8-in-loop-i.result ∙ length-set l.numbers (2 * l.i) c.read8.result ∙ l.invariant.1,
-      take-two l.numbers l.i c.read8.result c.read8-in-loop-i.result (omega (arith, c.loop-i-test.true, many, l.invariant.1))
-          ∙ bounds-next a.block.now (take (2 * l.i) l.numbers) l.i c.slot_at-at.result c.read8.result c.read8-in-loop-i.result c.slot_at-at.ensures.0 c.read8.ensures c.read8-in-loop-i.ensures l.invariant.2,
+      length-set (set l.numbers (2 * l.i) c.read.result) (2 * l.i + 1) c.read-in-loop-i.result ∙ length-set l.numbers (2 * l.i) c.read.result ∙ l.invariant.1,
+      take-two l.numbers l.i c.read.result c.read-in-loop-i.result (omega (arith, c.loop-i-test.true, many, l.invariant.1))
+          ∙ bounds-next a.block.now (take (2 * l.i) l.numbers) l.i c.slot_at-at.result c.read.result c.read-in-loop-i.result c.slot_at-at.ensures.0 c.read.ensures c.read-in-loop-i.ensures l.invariant.2,
     )
 
 pub returns : goal.returns

@@ -1,8 +1,0 @@
-use Rattle.numbers.proofs.Kit.{eq-eqb, ne_eqb}
-use Rattle.product_text.proofs.is_separator.Goals as goal
-
-pub returns-then-b-eq32 : goal.returns-then-b-eq32
-returns-then-b-eq32 c = rw (eq-eqb c.args.b 32 c.if-b-eq32.true)
-
-pub returns-else-b-eq32 : goal.returns-else-b-eq32
-returns-else-b-eq32 c = rw (ne_eqb c.args.b 32 c.if-b-eq32.false)

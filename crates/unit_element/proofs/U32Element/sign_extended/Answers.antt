@@ -1,0 +1,7 @@
+use Rattle.numbers.proofs.Kit.{arith}
+use Rattle.numbers.proofs.ElementLaws.{extended}
+use Rattle.std.proofs.Common.{rules}
+use Rattle.unit_element.proofs.U32Element.sign_extended.Goals as goal
+
+pub returns : goal.returns
+returns c = extended 0x8000_0000 0x1_0000_0000_0000_0000 c.args.self (search rules) (omega arith)

@@ -1,8 +1,0 @@
--- The law of sign extension at 16 and 32 bits.
-use Rattle.numbers.proofs.Kit.{◌∙◌, arith}
-use Rattle.numbers.proofs.ElementLaws.{extended}
-use Rattle.std.proofs.Common.{rules}
-use Rattle.unit_element.proofs.extend2to4.Goals as goal
-
-pub returns : goal.returns
-returns c = c.wrapping_add_u32.ensures.value ∙ extended 32768 0x1_0000_0000 c.before.args.x (search rules) (omega arith)

@@ -1,5 +1,0 @@
-use Rattle.numbers.proofs.Kit.{add-zero, arith}
-use Rattle.unit_element.proofs.read8.Goals as goal
-
-pub returns : goal.returns
-returns c = rw add-zero (omega arith)

@@ -1,2 +1,0 @@
--- Laws of the widths.
-pub mod WidthLaws
