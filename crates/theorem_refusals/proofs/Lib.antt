@@ -4,3 +4,4 @@ pub mod Exact
 pub mod Listed
 pub mod FaultLaws
 pub mod Answers
+pub mod AnswerLaws
