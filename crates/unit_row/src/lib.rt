@@ -57,17 +57,13 @@ fn copy_rest(dst: &mut [u8], src: &[u8], done: usize)
     }
 }
 
-// The row writer: copies all of src to the front of dst, rows of less than 128 bytes by eights, without a call.
+// The row writer: copies all of src to the front of dst, by eights and without a call: the library calls no memmove, as copy_from_slice does.
 pub fn write_row(dst: &mut [u8], src: &[u8])
     requires { length src.now ≤ length dst.old }
     ensures { dst.new ≡ upto (length src.now) (λ b ys. set ys b (get_or src.now b 0)) dst.old }
 {
-    if src.len() < 128 {
-        let done = copy_eights(dst, src);
-        copy_rest(dst, src, done);
-        return;
-    }
-    dst[..src.len()].copy_from_slice(src);
+    let done = copy_eights(dst, src);
+    copy_rest(dst, src, done);
 }
 
 fn mark_first(dst: &mut [u8], n: usize)

@@ -1,19 +1,18 @@
--- `numbers_coded::copy_bytes` meets its contract.
-use mathlib.Core.Path.{◌≡◌, ap, ◌∙◌}
-use mathlib.Core.List.{List}
-use Prim.Native.Nat.{ℕ, ◌+◌, ◌-◌}
+use mathlib.Core.Path.{refl, sym, ◌∙◌}
 use native.Mathlib.Omega.{arith}
-use lib.ListN.{length, take, drop, length-take, length-drop}
-use Rattle.numbers_coded.proofs.CopyLaws.{put_part}
+use Rattle.numbers_coded.proofs.CopyLaws.{copy_start, copy_more, copy-end}
 use Rattle.numbers_coded.proofs.copy_bytes.Goals as goal
+
+pub loop-i-init : goal.loop-i-init
+loop-i-init c = let a = c.args in copy_start a.room.now a.s.now a.to a.from a.n 0 refl
+
+pub loop-i-preserved : goal.loop-i-preserved
+loop-i-preserved c =
+    let l = c.loop-i in
+    let a = c.args in
+    sym (copy_more l.room a.s.now a.to a.from a.n l.i (omega arith) (omega arith)) ∙ l.invariant
 
 pub returns : goal.returns
 returns c =
     let a = c.args in
-    let vs : List ℕ = take a.n (drop a.from a.s.now) in
-    let k : a.to + a.n - a.to ≡ a.n = omega arith in
-    let m : a.from + a.n - a.from ≡ a.n = omega arith in
-    let l : length vs ≡ a.n = omega (arith, length-take a.n (drop a.from a.s.now), length-drop a.from a.s.now, c.requires.n_in_bounds_2) in
-    put_part a.room.now c.copy_from_slice.new.self vs a.to (a.to + a.n - a.to)
-    (c.copy_from_slice.ensures.after ∙ ap (λ (x : ℕ). take x (drop a.from a.s.now)) m)
-    (omega arith) (omega (arith, c.requires.n_in_bounds))
+    sym (copy-end c.loop-i.room a.s.now a.to a.from a.n c.loop-i.i (omega arith)) ∙ c.loop-i.invariant
