@@ -6,9 +6,8 @@ use mathlib.Core.Logic.{inl, inr}
 use Prim.Native.Nat.{ℕ, zero, suc, ◌+◌, ◌*◌, ◌^◌, ◌≤◌, ◌<◌, max}
 use native.Mathlib.Numerals.{add-one}
 use native.Mathlib.Omega.{arith}
-use denote.Bor.{Bor}
 use lib.Dec.{ltb, leb, eqb}
-use lib.ListN.{length, drop, get_or, drop_of_length-le, length-append, length-drop}
+use lib.ListN.{length, drop, take, get_or, drop_of_length-le, length-append, length-drop}
 use lib.Seq.{drop-cons, drop-drop}
 use borrow.Author.Tests.{leb-true, ltb-true}
 use Rattle.machine.specs.Listing.{Row, listing}
@@ -221,17 +220,22 @@ at_row f g (x ∷ xs) [] e a b k l = absurd cc
 at_row f g (x ∷ xs) (y ∷ ys) e a b zero l = cc
 at_row f g (x ∷ xs) (y ∷ ys) e a b (suc k) l = at_row f g xs ys (let t : map f xs ≡ map g ys = cc in t) a b k (omega arith)
 
-pub table-size : (rows : List (ℕ × Bor (List ℕ))) → IsTable rows → length rows ≡ 79
-table-size rows t = sym (length-map rows (λ (r : ℕ × Bor (List ℕ)). r.0)) ∙ ap length t.0 ∙ length-map listing base_of ∙ rows_are
+pub table-size : (rows : List (ℕ × ℕ × List ℕ)) → IsTable rows → length rows ≡ 79
+table-size rows t = sym (length-map rows (λ (r : ℕ × ℕ × List ℕ). r.0)) ∙ ap length t.0 ∙ length-map listing base_of ∙ rows_are
 
-module _ (rows : List (ℕ × Bor (List ℕ))) (t : IsTable rows) (x : ℕ × Bor (List ℕ)) (k : ℕ) (l : k < 79) where
+module _ (rows : List (ℕ × ℕ × List ℕ)) (t : IsTable rows) (x : ℕ × ℕ × List ℕ) (k : ℕ) (l : k < 79) where
   pub bits_at : (get_or rows k x).0 ≡ base_of (row_at k)
   unfolding row_at
-  bits_at = at_row (λ (r : ℕ × Bor (List ℕ)). r.0) base_of rows listing t.0 x no_row k (omega (arith, table-size rows t))
+  bits_at = at_row (λ (r : ℕ × ℕ × List ℕ). r.0) base_of rows listing t.0 x no_row k (omega (arith, table-size rows t))
 
-  pub text_at : (get_or rows k x).1.now ≡ bytes (row_at k).text
+  pub text_at : take (get_or rows k x).1 (get_or rows k x).2 ≡ bytes (row_at k).text
   unfolding row_at
-  text_at = at_row (λ (r : ℕ × Bor (List ℕ)). r.1.now) (λ (r : Row). bytes r.text) rows listing t.1 x no_row k (omega (arith, table-size rows t))
+  text_at = at_row (λ (r : ℕ × ℕ × List ℕ). take r.1 r.2) (λ (r : Row). bytes r.text) rows listing t.1 x no_row k (omega (arith, table-size rows t))
+
+  pub text_in : (get_or rows k x).1 ≤ 25
+  text_in =
+      leb-true (get_or rows k x).1 25
+      (at_row (λ (r : ℕ × ℕ × List ℕ). leb r.1 25) (λ (r : Row). true) rows listing t.2 x no_row k (omega (arith, table-size rows t)))
 
 -- every text is short, and no row fixes a bit above 31
 abbrev apt : List Row → Bool

@@ -4,4 +4,4 @@ use Rattle.text_read.proofs.rows.row_at.Goals as goal
 
 pub row_in-requires-clause-table : goal.row_in-requires-clause-table
 unfolding listing
-row_in-requires-clause-table c = (refl, refl)
+row_in-requires-clause-table c = (refl, refl, refl)
