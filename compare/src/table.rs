@@ -47,21 +47,25 @@ fn name_at(block: usize, row: usize, form: usize) -> Option<&'static str> {
     name_by_fixed_bits((block << 28 | row << 25 | form << 12 | 0b1110111) as u32)
 }
 
-/// The constants of a source: a line `const CODES_0000..` begins a block, a line
-/// `[..], // ..` is a row of it; a block without entries is `[[0; 8]; 8]`.
-fn constants(source: &str) -> Vec<Vec<u8>> {
-    let mut blocks: Vec<Vec<u8>> = Vec::new();
-    for line in source.lines().map(str::trim) {
-        if line.starts_with("const CODES_") {
-            assert!(line.starts_with(&format!("const CODES_{:04b}:", blocks.len())), "{line}");
+/// The table of a source: a line `const CODES_..` begins a block, a line
+/// `[..], // ..` is a row of it; a block without entries is `[[0; 8]; 8]`. The lines
+/// after `static CODES` name the blocks of the table in their order.
+fn table(source: &str) -> Vec<Vec<u8>> {
+    let mut blocks: Vec<(&str, Vec<u8>)> = Vec::new();
+    let (constants, order) = source.split_once("static CODES").expect("the table");
+    for line in constants.lines().map(str::trim) {
+        if let Some(name) = line.strip_prefix("const ").and_then(|rest| rest.split(':').next()) {
             let entries = if line.ends_with("= [[0; 8]; 8];") { ROWS * FORMS } else { 0 };
-            blocks.push(vec![0; entries]);
+            blocks.push((name, vec![0; entries]));
         } else if let Some(row) = line.strip_prefix('[').and_then(|rest| rest.split(']').next()) {
             let entries = row.split(',').map(|entry| entry.trim().parse::<u8>().expect("a number"));
-            blocks.last_mut().expect("a block before its rows").extend(entries);
+            blocks.last_mut().expect("a block before its rows").1.extend(entries);
         }
     }
-    blocks
+    let names = order.split_once("= [").and_then(|rest| rest.1.split(']').next());
+    let names = names.expect("the blocks' names").split(',').map(str::trim);
+    let found = |name: &str| blocks.iter().find(|block| block.0 == name).expect("a block").1.clone();
+    names.filter(|name| !name.is_empty()).map(found).collect()
 }
 
 fn cell(name: Option<&str>) -> String {
@@ -199,7 +203,7 @@ fn main() {
         print_encodings();
         return;
     }
-    let blocks = constants(&std::fs::read_to_string(&path).expect("the file with the constants"));
+    let blocks = table(&std::fs::read_to_string(&path).expect("the file with the constants"));
     assert!(blocks.len() == BLOCKS && blocks.iter().all(|block| block.len() == ROWS * FORMS));
     let mut wrong = 0;
     for (block, entries) in blocks.iter().enumerate() {
