@@ -145,10 +145,13 @@ fn put_refusal(out: &mut [u8], at: usize, answer: u64, column: u64) -> usize
     text_lines::put_decimal(out, c, column)
 }
 
-// A refused line.
-pub fn put_refused(out: &mut [u8], at: usize, error: TextError) -> usize
-    requires { at + length (refused (Err error)) ≤ length out.old }
-    ensures { Wrote out.old at out.new result (refused (Err error)) }
+// A line that is answered with a number and a column.
+pub fn put_refused(out: &mut [u8], at: usize, answer: Result<(), TextError>) -> usize
+    requires { at + length (refused answer) ≤ length out.old }
+    ensures { Wrote out.old at out.new result (refused answer) }
 {
-    put_refusal(out, at, error_number(error), error_column(error))
+    match answer {
+        Ok(()) => put_refusal(out, at, 0, 0),
+        Err(error) => put_refusal(out, at, error_number(error), error_column(error)),
+    }
 }

@@ -78,7 +78,7 @@ fn put_listed(out: &mut [u8], at: usize, word: u32) -> usize
     let number = number_of(word);
     match code_answer(word, number) {
         Ok(()) => text_write::put_line(out, at, number, word),
-        Err(error) => put_refused(out, at, error),
+        Err(error) => put_refused(out, at, Err(error)),
     }
 }
 
@@ -91,9 +91,9 @@ fn put_bad_line(out: &mut [u8], at: usize, fault: Fault) -> usize
     put_refused(
         out,
         at,
-        TextError::BadLine {
+        Err(TextError::BadLine {
             column: fault.place as u64 + 1,
-        },
+        }),
     )
 }
 
@@ -156,7 +156,7 @@ fn answer(text: &[u8], out: &mut [u8], back: bool) -> usize
     ensures { Wrote out.old 0 out.new result (program_text back text.now) }
 {
     if 65536 < text.len() {
-        let at = put_refused(out, 0, TextError::BadArguments);
+        let at = put_refused(out, 0, Err(TextError::BadArguments));
         return text_lines::put_byte(out, at, b'\n');
     }
     put_replies(out, text, back)

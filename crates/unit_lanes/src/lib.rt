@@ -41,17 +41,40 @@ fn fetch_tile<E: Element, N: Element, const L: usize>(
     }
 }
 
-// Each sum plus x times its element of the row at `at`.
-fn mac_row<E: Element, const L: usize>(sums: &mut [E], d: &[E], at: usize, x: E)
-    requires lanes_in_bounds { (L ≤ length sums.old) × (at + L ≤ length d.now) }
-    ensures { (j : ℕ) → j < L → slice_index (map E.number sums.new) j ≡ plus_times E.BYTES (slice_index (map E.number sums.old) j) (E.number x) (slice_index (map E.number d.now) (at + j)) }
+// Element l of the row of k at `at`, as a residue; 0 behind the last.
+fn term<E: Element, N: Element>(s: &[u8], at: usize, l: usize, k: usize) -> E
+    requires { at + k * N.BYTES ≤ length s.now }
+    ensures within { l < k → E.number result ≡ residue_at E.BYTES s.now (at + l * N.BYTES) N.BYTES }
+    ensures behind { k ≤ l → E.number result ≡ 0 }
 {
-    for j in 0..L {
-        sums[j] = sums[j].mac(x, d[at + j]);
+    if l < k {
+        E::from_signed(N::read(s, at + l * N::BYTES))
+    } else {
+        E::low(0)
     }
 }
 
-// Each sum plus the products of A(l) and its column's elements.
+// Each sum plus x times its element of the row at `at` and y times that of the row at `next`. Two terms at once: of a shorter body LLVM unrolls all
+// lanes before it can keep the sums in vector registers, which takes up to seven times as long.
+fn mac_terms<E: Element, const L: usize>(
+    sums: &mut [E],
+    d: &[E],
+    at: usize,
+    next: usize,
+    x: E,
+    y: E,
+)
+    requires lanes_in_bounds { (L ≤ length sums.old) × ((at + L ≤ length d.now) × (next + L ≤ length d.now)) }
+    ensures { (j : ℕ) → j < L → slice_index (map E.number sums.new) j
+        ≡ plus_times E.BYTES (plus_times E.BYTES (slice_index (map E.number sums.old) j) (E.number x) (slice_index (map E.number d.now) (at + j)))
+        (E.number y) (slice_index (map E.number d.now) (next + j)) }
+{
+    for j in 0..L {
+        sums[j] = sums[j].mac(x, d[at + j]).mac(y, d[next + j]);
+    }
+}
+
+// Each sum plus the products of A(l) and its column's elements, two terms at a time; the last of an odd number with 0 beside it.
 fn add_products<E: Element, N: Element, const L: usize>(
     sums: &mut [E],
     d: &[E],
@@ -64,9 +87,12 @@ fn add_products<E: Element, N: Element, const L: usize>(
     requires k_in_bounds { a + k * N.BYTES ≤ length s.now }
     ensures { (j : ℕ) → j < L → slice_index (map E.number sums.new) j ≡ product E.BYTES E.BYTES k (slice_index (map E.number sums.old) j) (λ l. residue_at E.BYTES s.now (a + l * N.BYTES) N.BYTES) (λ l. slice_index (map E.number d.now) (l * L + j)) }
 {
-    for l in 0..k {
+    for p in 0..k / 2 + k % 2 {
+        let l = 2 * p;
+        let next = (l + 1).min(k - 1);
         let x = E::from_signed(N::read(s, a + l * N::BYTES));
-        mac_row::<E, L>(sums, d, l * L, x);
+        let y = term::<E, N>(s, a, l + 1, k);
+        mac_terms::<E, L>(sums, d, l * L, next * L, x, y);
     }
 }
 
