@@ -1,4 +1,4 @@
-use Rattle.numbers.proofs.Kit.{refl, ap, ap₂, ◌∙◌, ℕ, ◌+◌, arith, get_or}
+use Rattle.numbers.proofs.Kit.{refl, ap₂, ◌∙◌, ℕ, ◌+◌, arith, get_or}
 use Rattle.std.specs.Prelude.{map}
 use Rattle.unit_sums.specs.Rows.{plus_times}
 use Rattle.unit_lanes.proofs.LaneLaws.{numbered, summed-next}
