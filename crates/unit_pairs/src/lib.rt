@@ -209,12 +209,14 @@ fn interleave(d: &mut [u16], to: usize, s: &[u8], p: usize, q: usize, width: usi
     ensures by_index { (j : ℕ) → j < n → (slice_index d.new (to + 2 * j) ≡ half s.now (p + j * width) width) × (slice_index d.new (to + 2 * j + 1) ≡ half s.now (q + j * width) width) }
     ensures by_index_2 { (i : ℕ) → i < to → slice_index d.new i ≡ slice_index d.old i }
 {
-    // The places in s go by sums: reckoned from j, products of 16 to 32 bits take 1.07.
+    // The places go by sums: those in s reckoned from j, products of 16 to 32 bits take 1.07, and those in d, of one row 1.27.
+    let mut o = to;
     let mut f = p;
     let mut g = q;
-    for j in 0..n {
-        d[to + 2 * j] = u16::read_signed(s, f, width);
-        d[to + 2 * j + 1] = u16::read_signed(s, g, width);
+    for _j in 0..n {
+        d[o] = u16::read_signed(s, f, width);
+        d[o + 1] = u16::read_signed(s, g, width);
+        o += 2;
         f += width;
         g += width;
     }
