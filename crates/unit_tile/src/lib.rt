@@ -46,7 +46,8 @@ fn tile_marked(marks: &[u8], start: usize, pitch: usize, rows: usize, n: usize) 
     true
 }
 
-// The answer of the check of a tile's marks: Done, or the first element with a byte without a mark, row by row.
+// The answer of the check of a tile's marks: Done, or the first element with a byte without a mark, row by row: there both loops are
+// left, by label.
 pub fn first_unmarked(
     marks: &[u8],
     start: usize,
@@ -62,18 +63,20 @@ pub fn first_unmarked(
     if tile_marked(marks, start, pitch, rows, cols * w) {
         return Ok(());
     }
-    for i in 0..rows {
+    let mut found = Ok(());
+    'tile: for i in 0..rows {
         let first = start + i * pitch;
         for j in 0..cols {
             if !row_marked(marks, first + j * w, w) {
-                return Err(Refusal::Unwritten {
+                found = Err(Refusal::Unwritten {
                     row: i as u64,
                     column: j as u64,
                 });
+                break 'tile;
             }
         }
     }
-    Ok(())
+    found
 }
 
 // Marks the rows of n bytes: as one row where each starts at the end of the one before.
